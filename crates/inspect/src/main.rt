@@ -1,0 +1,136 @@
+// Prints what check, find and show answer: two lanes with look-alike tags, and an image for each refusal of the table and of lookup.
+ghost use mathlib.Core.Path.{_≡_};
+ghost use Prim.Native.Nat.{_<_};
+ghost use lib.ListN.{length};
+use table::check::Checked;
+use table::lookup::Found;
+use table::place::Place;
+
+// Two blocks of kind 1: LANE0 in slot 1, LANEO in slot 2.
+fn two_lanes() -> [u8; 36]
+    ensures { λ r. ⌜ 36 ≡ length r ⌝ }
+{
+    *b"\x01\x02\x01\0\x01\x02\0\0\0\0\0\0LANE0   \x01\0\0\0\0\0\0\0LANEO   "
+}
+
+fn print(text: &[u8]) {
+    io::write_all(1, text);
+}
+
+fn print_numbered(text: &[u8], number: u8) {
+    print(text);
+    io::print_decimal(1, number as u64);
+}
+
+fn print_place(place: Place) {
+    match place {
+        Place::Header => print(b"header"),
+        Place::Slot(slot) => print_numbered(b"slot ", slot),
+        Place::Position(position) => print_numbered(b"position ", position),
+    }
+}
+
+fn print_refusal(number: u8, place: Place) {
+    print_numbered(b"refused ", number);
+    print(b" at ");
+    print_place(place);
+}
+
+fn print_check(name: &[u8], image: &[u8]) {
+    print(b"check ");
+    print(name);
+    print(b": ");
+    let checked = table::check::check(image);
+    match checked {
+        Checked::Blocks(blocks) => {
+            io::print_decimal(1, blocks as u64);
+            print(b" blocks");
+        }
+        Checked::Refused(number, place) => print_refusal(number, place),
+    }
+    print(b"\n");
+}
+
+fn print_find(image: &[u8], tag: &[u8]) {
+    print(b"find '");
+    print(tag);
+    print(b"': ");
+    let found = table::lookup::find(image, tag);
+    match found {
+        Found::At(position) => {
+            print(b"position ");
+            io::print_decimal(1, position as u64);
+        }
+        Found::Refused(number, place) => print_refusal(number, place),
+    }
+    print(b"\n");
+}
+
+// The bytes in hexadecimal, each after a space.
+fn print_bytes(bytes: &[u8]) {
+    let mut i: usize = 0;
+    while i < bytes.len() {
+        print(b" ");
+        io::print_hex(1, bytes[i] as u64, 2);
+        i += 1;
+    }
+}
+
+fn print_show(image: &[u8], tag: &[u8]) {
+    print(b"show '");
+    print(tag);
+    print(b"':");
+    let slot = table::lookup::show(image, tag);
+    print_bytes(slot);
+    print(b"\n");
+}
+
+fn look_up(tag: &[u8]) {
+    let image = two_lanes();
+    print_find(&image, tag);
+    print_show(&image, tag);
+}
+
+// The two lanes with one byte changed.
+fn check_changed(name: &[u8], at: usize, byte: u8)
+    requires { ⌜ at < 36 ⌝ }
+{
+    let mut image = two_lanes();
+    image[at] = byte;
+    print_check(name, &image);
+}
+
+fn check_headers() {
+    print_check(b"short image", b"\x01\x02\x01");
+    check_changed(b"version 2", 0, 2);
+    check_changed(b"no slots", 1, 0);
+    check_changed(b"three slots in 36 bytes", 1, 3);
+}
+
+fn check_chains() {
+    check_changed(b"head above N", 2, 9);
+    check_changed(b"next above N", 21, 9);
+    check_changed(b"next already met", 21, 1);
+}
+
+fn check_records() {
+    check_changed(b"kind 0", 4, 0);
+    check_changed(b"small letter in a tag", 28, b'l');
+    check_changed(b"tag of an earlier block", 32, b'0');
+    check_changed(b"wire to no slot", 6, 9);
+    check_changed(b"abort code without abort", 25, 1);
+    check_changed(b"spare slot not zero", 2, 2);
+}
+
+fn main() {
+    let image = two_lanes();
+    print_check(b"two lanes", &image);
+    look_up(b"LANE0   ");
+    look_up(b"LANEO   ");
+    check_headers();
+    check_chains();
+    check_records();
+    look_up(b"lane0   ");
+    look_up(b"LANE0");
+    look_up(b"LANE1   ");
+}

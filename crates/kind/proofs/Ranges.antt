@@ -1,0 +1,71 @@
+-- A property of kinds is proved of a range of kind bytes by one computed test: for the proofs of the functions of this crate.
+use mathlib.Core.Path.{_≡_, _∙_, subst, sym, refl}
+use mathlib.Core.Bool.{Bool, true, false, not, _&&_, _||_}
+use mathlib.Core.List.{List, [], _∷_}
+use mathlib.Core.Logic.{_⊎_, inl, inr}
+use Prim.Native.Nat.{ℕ, zero, suc, _+_, _-_, _<_, _≤_}
+use native.Mathlib.Nat.{add-zero, add-suc, suc-add, le-of-suc-le-suc, not-suc-le-zero}
+use native.Mathlib.Omega.{arith}
+use lib.Dec.{T, eqb}
+use borrow.Author.Tests.{ne-eqb, eq-eqb}
+use types.Run.{OneOf}
+use Rattle.kind.specs.Kind.{isOneOf}
+
+-- f holds at first and the n - 1 numbers after it
+abbrev pub throughout : (ℕ → Bool) → ℕ → ℕ → Bool
+throughout f first zero = true
+throughout f first (suc n) = f first && throughout f (suc first) n
+
+left : (a b : Bool) → T (a && b) → T a
+left true b t = tt
+left false b t = t
+
+right : (a b : Bool) → T (a && b) → T b
+right true b t = t
+right false b t = absurd t
+
+at : (f : ℕ → Bool) (n first j : ℕ) → T (throughout f first n) → j < n → T (f (first + j))
+at f zero first j t h = absurd (not-suc-le-zero h)
+at f (suc n) first zero t h = subst (λ (m : ℕ). T (f m)) (sym (add-zero first)) (left (f first) (throughout f (suc first) n) t)
+at f (suc n) first (suc j) t h =
+    subst (λ (m : ℕ). T (f m)) (suc-add first j ∙ sym (add-suc first j))
+    (at f n (suc first) j (right (f first) (throughout f (suc first) n) t) (le-of-suc-le-suc h))
+
+true-of : (b : Bool) → T b → b ≡ true
+true-of true t = refl
+true-of false t = absurd t
+
+-- the value b, computed of the n numbers from first on, holds of each of them
+unfoldable pub equals : Bool → Bool → Bool
+equals true a = a
+equals false a = not a
+
+unequal : (b a : Bool) → equals b a ≡ true → b ≡ a
+unfolding equals
+unequal true a e = sym e
+unequal false true e = e
+unequal false false e = refl
+
+unfoldable pub agree : Bool → (ℕ → Bool) → ℕ → Bool
+agree b f m = equals b (f m)
+
+pub in-range : (b : Bool) (f : ℕ → Bool) (first n : ℕ) → T (throughout (agree b f) first n) → (k : ℕ) → first ≤ k → k < first + n → b ≡ f k
+unfolding agree
+in-range b f first n t k h g =
+    let e : first + (k - first) ≡ k = omega arith in
+    unequal b (f k) (true-of _ (subst (λ (m : ℕ). T (agree b f m)) e (at (agree b f) n first (k - first) t (omega arith))))
+
+or-true : (b : Bool) → true ≡ b || true
+or-true true = refl
+or-true false = refl
+
+pub none-of : (ks : List ℕ) (k : ℕ) → (OneOf ks k → ⊥) → false ≡ isOneOf ks k
+none-of [] k h = refl
+none-of (m ∷ []) k h = rw (ne-eqb k m h)
+none-of (m ∷ n ∷ ms) k h = rw (ne-eqb k m (λ e. h (inl e))) (none-of (n ∷ ms) k (λ o. h (inr o)))
+
+pub some-of : (ks : List ℕ) (k : ℕ) → OneOf ks k → true ≡ isOneOf ks k
+some-of [] k h = absurd h
+some-of (m ∷ []) k h = rw (eq-eqb k m h)
+some-of (m ∷ n ∷ ms) k (inl e) = rw (eq-eqb k m e)
+some-of (m ∷ n ∷ ms) k (inr o) = rw (← some-of (n ∷ ms) k o) (or-true (eqb k m))

@@ -1,0 +1,229 @@
+-- What an accepted table has, for the layers above: a header that passed, N and the number of blocks at most 64, slots of 1 to N none
+-- twice, kinds 1 to 14, each wire from the frame or of a position of the table, tags in form none twice.
+use Prim.Native.Nat.{ℕ, zero, suc, _+_, _≤_, _<_}
+use mathlib.Core.Path.{_≡_, refl, ap, sym, _∙_}
+use mathlib.Core.List.{List, [], _∷_, _++_, append-assoc}
+use mathlib.Core.Bool.{Bool, true, false}
+use mathlib.Core.Logic.{_⊎_, inl, inr}
+use native.Mathlib.Omega.{arith}
+use borrow.Author.Tests.{eqb-true, leb-true, ltb-true, ltb-false}
+use lib.Dec.{leb, ltb, eqb}
+use lib.ListN.{length, getD, take}
+use lib.Seq.{getD-take, length-take-le}
+use Rattle.kind.specs.Kind.{isKind, hasAbort}
+use Rattle.table.specs.Place.{andThen}
+use Rattle.table.specs.Image.{slotCount, kindOf, wireSlot, wireCode, startWire, abortWire, tagOf, HasSlot}
+use Rattle.table.specs.Header.{headerCheck, Headed}
+use Rattle.table.specs.Tag.{tagForm, sameBytes}
+use Rattle.table.specs.Walk.{among, Walked, Met, Stopped, walked}
+use Rattle.table.specs.Chain.{slotsOf, chainOf, chainVerdict, positionOf}
+use Rattle.table.specs.Record.{kindOk, tagAmong, noWire, wireOk, startOk, abortOk, recordCheck, recordsFrom, recordsCheck}
+use Rattle.table.specs.Spare.{sparesCheck}
+use Rattle.table.specs.Check.{verdictOf, checkOf}
+use Rattle.table.specs.Blocks.{fromFrame, wireOf, blockIn, blocksOf, blockAt}
+use Rattle.table.specs.declared.place.Place.the-variants.{Slot}
+use Rattle.table.specs.declared.place.Verdict.the-variants.{Passed}
+use Rattle.table.specs.declared.check.Checked.the-variants.{Blocks}
+use Rattle.table.specs.declared.blocks.Wire.{Wire}
+use Rattle.table.proofs.Logic.{by-test, not-both, and-left, and-right, not-failed, group-passes, rest-passes}
+use Rattle.table.proofs.AmongLaws.{position-bound, position-some, all-at, all-among}
+use Rattle.table.proofs.ChainLaws.{chain-in, chain-few, chain-distinct, has-slot}
+use Rattle.table.proofs.TagLaws.{same-self}
+use Rattle.table.proofs.CheckLaws.{headed-by, passed-by, blocks-by}
+use Rattle.table.proofs.BlockLaws.{blocks-length, block-is}
+
+-- a record that passed its checks
+pub record RecordOk (image chain : List ℕ) (slot : ℕ) : Type 0 where
+  pub kind : kindOk image slot ≡ true
+  pub tag : tagForm (tagOf image slot) ≡ true
+  pub start : startOk image chain slot ≡ true
+  pub abort : abortOk image chain slot ≡ true
+
+passes-record : (image chain : List ℕ) (repeated : Bool) (slot : ℕ) → recordCheck image chain repeated slot ≡ Passed → RecordOk image chain slot × (repeated ≡ false)
+unfolding recordCheck
+passes-record image chain repeated slot e =
+    by-test (kindOk image slot)
+    (λ k. by-test (tagForm (tagOf image slot))
+    (λ t. by-test repeated (λ r. not-failed _ 9 (Slot slot) refl (simp (k, t, r) at e))
+    (λ r. by-test (startOk image chain slot)
+    (λ s. by-test (abortOk image chain slot)
+    (λ a. (record { kind = k; tag = t; start = s; abort = a }, r))
+    (λ a. not-failed _ 10 (Slot slot) refl (simp (k, t, r, s, a) at e)))
+    (λ s. not-failed _ 10 (Slot slot) refl (simp (k, t, r, s) at e))))
+    (λ t. not-failed _ 8 (Slot slot) refl (simp (k, t) at e)))
+    (λ k. not-failed _ 7 (Slot slot) refl (simp k at e))
+
+append-nil : (l : List ℕ) → l ++ [] ≡ l
+append-nil [] = refl
+append-nil (x ∷ l) = ap (λ (r : List ℕ). x ∷ r) (append-nil l)
+
+-- every record of slots that passed, with its tag against the earlier ones
+each-record : (image chain earlier rest : List ℕ) → recordsFrom image chain earlier rest ≡ Passed → (i : ℕ) → i < length rest
+    → recordCheck image chain (tagAmong image (tagOf image (getD rest i 0)) (earlier ++ take i rest)) (getD rest i 0) ≡ Passed
+unfolding recordsFrom
+each-record image chain earlier [] e i l = absurd (omega arith)
+each-record image chain earlier (slot ∷ rest) e zero l =
+    rw (append-nil earlier) (group-passes (recordCheck image chain (tagAmong image (tagOf image slot) earlier) slot) (recordsFrom image chain (earlier ++ (slot ∷ [])) rest) e)
+each-record image chain earlier (slot ∷ rest) e (suc i) l =
+    let h = rest-passes (recordCheck image chain (tagAmong image (tagOf image slot) earlier) slot) (recordsFrom image chain (earlier ++ (slot ∷ [])) rest) e in
+    rw (append-assoc earlier (slot ∷ []) (take i rest)) at (each-record image chain (earlier ++ (slot ∷ [])) rest h i (omega arith))
+
+-- a tag that is not among those of some slots is that of none
+none-among : (image tag slots : List ℕ) → tagAmong image tag slots ≡ false → (j : ℕ) → j < length slots → tagOf image (getD slots j 0) ≡ tag → ⊥
+unfolding tagAmong
+none-among image tag [] e j l q = omega arith
+none-among image tag (k ∷ slots) e zero l q =
+    by-test (sameBytes (tagOf image k) tag) (λ s. not-both true refl (simp s at e))
+    (λ s. not-both (sameBytes tag tag) (same-self tag) (rw q at s))
+none-among image tag (k ∷ slots) e (suc j) l q =
+    by-test (sameBytes (tagOf image k) tag) (λ s. not-both true refl (simp s at e))
+    (λ s. none-among image tag slots (simp s at e) j (omega arith) q)
+
+-- a wire of a table of n blocks: a flag 0 to 3 of a block, or the frame's bit
+pub record WireOf (n : ℕ) (w : Wire) : Type 0 where
+  pub within : w .position ≤ n
+  pub flag : w .flag < 4
+  pub frame : w .position ≡ 0 → w ≡ fromFrame
+
+wire-of : (image : List ℕ) (n slot code : ℕ) → length (chainOf image) ≡ n → wireOk (chainOf image) slot code ≡ true → WireOf n (wireOf (chainOf image) slot code)
+wire-of image n slot code e h =
+    by-test (eqb slot 0)
+    (λ z. simp z (record { within = omega arith; flag = omega arith; frame = λ q. refl }))
+    (λ z. let m : among slot (chainOf image) ≡ true = and-left _ _ (simp z at h) in
+    simp z (record {
+      within = omega (arith, position-bound 0 slot (chainOf image));
+      flag = omega arith;
+      frame = λ q. absurd (omega (arith, position-some 1 slot (chainOf image) m));
+    }))
+
+-- the slot of a wire is 0 or of 1 to N
+source-in : (image : List ℕ) (slot code : ℕ) → wireOk (chainOf image) slot code ≡ true → slot ≤ slotCount image
+source-in image slot code h =
+    by-test (eqb slot 0) (λ z. omega (arith, eqb-true slot 0 z))
+    (λ z. all-among (slotCount image) (chainOf image) slot (chain-in image) (and-left _ _ (simp z at h)) .1)
+
+-- an abort wire is a wire, also where it has to be none
+abort-wire-ok : (image chain : List ℕ) (slot : ℕ) → abortOk image chain slot ≡ true → wireOk chain (wireSlot image slot abortWire) (wireCode image slot abortWire) ≡ true
+abort-wire-ok image chain slot h =
+    by-test (hasAbort (kindOf image slot)) (λ a. simp a at h)
+    (λ a. let g : noWire (wireSlot image slot abortWire) (wireCode image slot abortWire) ≡ true = simp a at h in
+    let z : eqb (wireSlot image slot abortWire) 0 ≡ true = and-left _ (eqb (wireCode image slot abortWire) 0) g in
+    simp z (and-right (eqb (wireSlot image slot abortWire) 0) (eqb (wireCode image slot abortWire) 0) g))
+
+module _ (image : List ℕ) (n : ℕ) (ok : checkOf image ≡ Blocks n) where
+  passed : verdictOf image ≡ Passed
+  unfolding checkOf
+  passed = passed-by (verdictOf image) (length (chainOf image)) n ok
+
+  header-passed : headerCheck image ≡ Passed
+  unfolding verdictOf
+  header-passed = group-passes (headerCheck image) (andThen (chainVerdict (walked image)) (andThen (recordsCheck image) (sparesCheck image))) passed
+
+  below-header : andThen (chainVerdict (walked image)) (andThen (recordsCheck image) (sparesCheck image)) ≡ Passed
+  unfolding verdictOf
+  below-header = rest-passes (headerCheck image) (andThen (chainVerdict (walked image)) (andThen (recordsCheck image) (sparesCheck image))) passed
+
+  records-passed : recordsCheck image ≡ Passed
+  records-passed = group-passes (recordsCheck image) (sparesCheck image)
+      (rest-passes (chainVerdict (walked image)) (andThen (recordsCheck image) (sparesCheck image)) below-header)
+
+  pub accepted-headed : Headed image
+  accepted-headed = headed-by image header-passed
+
+  -- the walk ended
+  met-by : (w : Walked) → chainVerdict w ≡ Passed → w ≡ Met (slotsOf w)
+  met-by (Met slots) e = refl
+  met-by (Stopped number place) e = not-failed _ number place refl e
+
+  pub accepted-walk : walked image ≡ Met (chainOf image)
+  accepted-walk = met-by (walked image) (group-passes (chainVerdict (walked image)) (andThen (recordsCheck image) (sparesCheck image)) below-header)
+
+  -- the number of blocks
+  pub accepted-count : length (chainOf image) ≡ n
+  unfolding checkOf
+  accepted-count = blocks-by (verdictOf image) (length (chainOf image)) n ok
+
+  pub accepted-blocks : length (blocksOf image) ≡ n
+  accepted-blocks = blocks-length image (chainOf image) (chainOf image) ∙ accepted-count
+
+  pub accepted-few : n ≤ 64
+  accepted-few = omega (arith, accepted-count, chain-few image, accepted-headed .few)
+
+  module _ (i : ℕ) (l : i < n) where
+    in-chain : i < length (chainOf image)
+    in-chain = omega (arith, accepted-count)
+
+    -- slots of 1 to N
+    pub accepted-slot : (0 < getD (chainOf image) i 0) × (getD (chainOf image) i 0 ≤ slotCount image)
+    accepted-slot = all-at (slotCount image) (chainOf image) i (chain-in image) in-chain
+
+    pub accepted-has-slot : HasSlot image (getD (chainOf image) i 0)
+    accepted-has-slot = has-slot image (getD (chainOf image) i 0) accepted-headed (accepted-slot .0) (accepted-slot .1)
+
+    both : RecordOk image (chainOf image) (getD (chainOf image) i 0) × (tagAmong image (tagOf image (getD (chainOf image) i 0)) (take i (chainOf image)) ≡ false)
+    unfolding recordsCheck
+    both = passes-record image (chainOf image) (tagAmong image (tagOf image (getD (chainOf image) i 0)) (take i (chainOf image))) (getD (chainOf image) i 0)
+        (each-record image (chainOf image) [] (chainOf image) records-passed i in-chain)
+
+    pub accepted-record : RecordOk image (chainOf image) (getD (chainOf image) i 0)
+    accepted-record = both .0
+
+    pub accepted-block : blockAt (blocksOf image) i ≡ blockIn image (chainOf image) (getD (chainOf image) i 0)
+    accepted-block = block-is image (chainOf image) (chainOf image) i in-chain
+
+    -- kinds 1 to 14
+    pub accepted-kind : isKind (blockAt (blocksOf image) i .kind) ≡ true
+    unfolding blockIn
+    accepted-kind = rw accepted-block (and-left _ _ (and-left _ _ (accepted-record .kind)))
+
+    pub accepted-kind-range : (1 ≤ blockAt (blocksOf image) i .kind) × (blockAt (blocksOf image) i .kind ≤ 14)
+    unfolding isKind
+    accepted-kind-range =
+        let k = blockAt (blocksOf image) i .kind in
+        (leb-true 1 k (and-left (leb 1 k) (leb k 14) accepted-kind), leb-true k 14 (and-right (leb 1 k) (leb k 14) accepted-kind))
+
+    -- wires
+    pub accepted-start : WireOf n (blockAt (blocksOf image) i .start)
+    unfolding blockIn
+    accepted-start =
+        let slot = getD (chainOf image) i 0 in
+        rw accepted-block (wire-of image n (wireSlot image slot startWire) (wireCode image slot startWire) accepted-count (accepted-record .start))
+
+    pub accepted-abort : WireOf n (blockAt (blocksOf image) i .abort)
+    unfolding blockIn
+    accepted-abort =
+        let slot = getD (chainOf image) i 0 in
+        rw accepted-block (wire-of image n (wireSlot image slot abortWire) (wireCode image slot abortWire) accepted-count (abort-wire-ok image (chainOf image) slot (accepted-record .abort)))
+
+    -- the slot that a wire names: 0, or of 1 to N
+    pub accepted-source : (wire : ℕ) → (wire ≡ startWire) ⊎ (wire ≡ abortWire) → wireSlot image (getD (chainOf image) i 0) wire ≤ slotCount image
+    accepted-source wire (inl e) =
+        let slot = getD (chainOf image) i 0 in
+        rw e (source-in image (wireSlot image slot startWire) (wireCode image slot startWire) (accepted-record .start))
+    accepted-source wire (inr e) =
+        let slot = getD (chainOf image) i 0 in
+        rw e (source-in image (wireSlot image slot abortWire) (wireCode image slot abortWire) (abort-wire-ok image (chainOf image) slot (accepted-record .abort)))
+
+    -- tags
+    pub accepted-tag : tagForm (blockAt (blocksOf image) i .tag) ≡ true
+    unfolding blockIn
+    accepted-tag = rw accepted-block (accepted-record .tag)
+
+  pub accepted-distinct : (i j : ℕ) → i < n → j < n → getD (chainOf image) i 0 ≡ getD (chainOf image) j 0 → i ≡ j
+  accepted-distinct i j k l e =
+      let p : positionOf (getD (chainOf image) j 0) (chainOf image) ≡ 1 + i = rw e at (chain-distinct image i (in-chain i k)) in
+      omega (arith, chain-distinct image j (in-chain j l))
+
+  earlier-tag : (i j : ℕ) → i < n → j < i → tagOf image (getD (chainOf image) j 0) ≡ tagOf image (getD (chainOf image) i 0) → ⊥
+  earlier-tag i j k l e =
+      none-among image (tagOf image (getD (chainOf image) i 0)) (take i (chainOf image)) (both i k .1) j
+      (omega (arith, length-take-le i (chainOf image) (omega (arith, in-chain i k))))
+      (rw (getD-take i (chainOf image) j 0 l) e)
+
+  pub accepted-tags : (i j : ℕ) → i < n → j < n → blockAt (blocksOf image) i .tag ≡ blockAt (blocksOf image) j .tag → i ≡ j
+  unfolding blockIn
+  accepted-tags i j k l e =
+      let q : tagOf image (getD (chainOf image) i 0) ≡ tagOf image (getD (chainOf image) j 0) = rw (accepted-block i k, accepted-block j l) at e in
+      by-test (ltb i j) (λ a. absurd (earlier-tag j i l (ltb-true i j a) q))
+      (λ a. by-test (ltb j i) (λ b. absurd (earlier-tag i j k (ltb-true j i b) (sym q)))
+      (λ b. omega (arith, ltb-false i j a, ltb-false j i b)))

@@ -1,0 +1,35 @@
+-- What the chain that the code holds of an accepted table says of block i: for the proofs of the lookup and blocks modules, and for
+-- the scan.
+use Prim.Native.Nat.{ℕ, _≤_, _<_}
+use mathlib.Core.Path.{_≡_, sym, ap, _∙_}
+use mathlib.Core.List.{List}
+use mathlib.Core.Logic.{_⊎_}
+use native.Mathlib.Omega.{arith}
+use lib.ListN.{getD}
+use Rattle.table.specs.Image.{slotCount, wireSlot, startWire, abortWire, HasSlot}
+use Rattle.table.specs.Chain.{chainOf}
+use Rattle.table.specs.Check.{Accepted}
+use Rattle.table.specs.Blocks.{blockIn, blocksOf, blockAt}
+use Rattle.table.proofs.ChainLaws.{slot-is, slot-has}
+use Rattle.table.proofs.AcceptedLaws.{accepted-headed, accepted-block, accepted-source}
+
+-- one of the two wires of a slot
+abbrev pub IsWire : ℕ → Type 0
+IsWire wire = (wire ≡ startWire) ⊎ (wire ≡ abortWire)
+
+module _ (image : List ℕ) (count : ℕ) (slots positions : List ℕ) (ok : Accepted image count slots positions) (i : ℕ) (l : i < count) where
+  pub held-slot : getD slots i 0 ≡ getD (chainOf image) i 0
+  held-slot = slot-is image count slots positions (accepted-headed image count (ok .answer)) (ok .chain) i l
+
+  pub held-has : HasSlot image (getD slots i 0)
+  held-has = slot-has image count slots positions (accepted-headed image count (ok .answer)) (ok .chain) i l
+
+  pub held-block : blockAt (blocksOf image) i ≡ blockIn image (chainOf image) (getD slots i 0)
+  held-block = accepted-block image count (ok .answer) i l ∙ ap (λ (slot : ℕ). blockIn image (chainOf image) slot) (sym held-slot)
+
+  -- the slot that a wire names
+  pub held-source : (wire : ℕ) → IsWire wire → wireSlot image (getD slots i 0) wire < 65
+  held-source wire w =
+      let few : slotCount image ≤ 64 = accepted-headed image count (ok .answer) .few in
+      let s : wireSlot image (getD (chainOf image) i 0) wire ≤ slotCount image = accepted-source image count (ok .answer) i l wire w in
+      rw held-slot (omega arith)

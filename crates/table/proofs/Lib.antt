@@ -1,0 +1,14 @@
+pub mod Logic
+pub mod AmongLaws
+pub mod Walk
+pub mod ChainLaws
+pub mod TagLaws
+pub mod RecordLaws
+pub mod SpareLaws
+pub mod CheckLaws
+pub mod BlockLaws
+pub mod AcceptedLaws
+pub mod HeldLaws
+pub mod AnswerLaws
+pub mod SearchLaws
+pub mod LookupLaws

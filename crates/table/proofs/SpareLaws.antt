@@ -1,0 +1,82 @@
+-- Laws of the spare slots: zeros by their numbers, and what the loop of spare::check_spares keeps.
+use Prim.Native.Nat.{ℕ, suc, _+_, _-_, _*_, _≤_, _<_}
+use mathlib.Core.Path.{_≡_, refl, ap, sym, _∙_}
+use mathlib.Core.List.{List, [], _∷_, _++_}
+use mathlib.Core.Bool.{true, false, _&&_}
+use native.Mathlib.Omega.{arith}
+use native.Mathlib.Numerals.{add-one}
+use borrow.Author.Tests.{eq-eqb, ne-eqb, eqb-true, eqb-false}
+use lib.Dec.{eqb}
+use lib.ListN.{take, drop}
+use lib.Seq.{take-add, drop-drop}
+use Rattle.words.specs.Word.{number, numberAt}
+use Rattle.table.specs.Place.{require}
+use Rattle.table.specs.Image.{slotCount}
+use Rattle.table.specs.Chain.{chainOf}
+use Rattle.table.specs.Spare.{allZero, spareOk, sparesFrom, sparesCheck}
+use Rattle.table.specs.declared.place.Place.the-variants.{Slot}
+use Rattle.table.specs.declared.place.Verdict.the-variants.{Passed, Failed}
+use Rattle.table.proofs.Logic.{by-test}
+
+-- bytes are all zero where their number is 0
+zero-number : (t : List ℕ) → allZero t ≡ eqb (number t) 0
+unfolding allZero number
+zero-number [] = refl
+zero-number (x ∷ t) =
+    by-test (eqb x 0)
+    (λ a. by-test (eqb (number t) 0)
+    (λ b. let f : x + 256 * number t ≡ 0 = omega (arith, eqb-true x 0 a, eqb-true (number t) 0 b) in simp (a, zero-number t, b, eq-eqb _ _ f))
+    (λ b. simp (a, zero-number t, b, ne-eqb (x + 256 * number t) 0 (λ f. eqb-false (number t) 0 b (omega arith)))))
+    (λ a. simp (a, ne-eqb (x + 256 * number t) 0 (λ f. eqb-false x 0 a (omega arith))))
+
+zero-append : (t u : List ℕ) → allZero (t ++ u) ≡ (allZero t && allZero u)
+unfolding allZero
+zero-append [] u = refl
+zero-append (x ∷ t) u = by-test (eqb x 0) (λ a. simp (a, zero-append t u)) (λ a. simp a)
+
+pub zero-sixteen : (s : List ℕ) (a : ℕ) → allZero (take 16 (drop a s)) ≡ (eqb (numberAt 8 s a) 0 && eqb (numberAt 8 s (a + 8)) 0)
+zero-sixteen s a =
+    ap allZero (take-add 8 8 (drop a s))
+    ∙ (zero-append (take 8 (drop a s)) (take 8 (drop 8 (drop a s)))
+    ∙ simp (zero-number, drop-drop))
+
+-- one slot, and those above it
+spare-at : (image chain : List ℕ) (n slot : ℕ) → slot ≤ n
+    → sparesFrom image chain slot (n + 1 - slot) ≡ require (spareOk image chain slot) 11 (Slot slot) (sparesFrom image chain (slot + 1) (n + 1 - (slot + 1)))
+unfolding sparesFrom
+spare-at image chain n slot h =
+    let e : n + 1 - slot ≡ suc (n - slot) = omega arith in
+    let f : n + 1 - (slot + 1) ≡ n - slot = omega arith in
+    rw (e, f, add-one)
+
+-- what the loop keeps: the slots from this one on are all that are left
+pub record Sparing (image : List ℕ) (slot : ℕ) : Type 0 where
+  pub first : 0 < slot
+  pub last : slot ≤ slotCount image + 1
+  pub onward : sparesFrom image (chainOf image) slot (slotCount image + 1 - slot) ≡ sparesCheck image
+
+pub sparing-start : (image : List ℕ) → Sparing image 1
+unfolding sparesCheck
+sparing-start image = record {
+  first = omega arith;
+  last = omega arith;
+  onward = let e : slotCount image + 1 - 1 ≡ slotCount image = omega arith in rw e;
+}
+
+module _ (image : List ℕ) (slot : ℕ) (p : Sparing image slot) where
+  pub sparing-failed : slot ≤ slotCount image → spareOk image (chainOf image) slot ≡ false → Failed 11 (Slot slot) ≡ sparesCheck image
+  sparing-failed h e = sym (spare-at image (chainOf image) (slotCount image) slot h ∙ simp e) ∙ p .onward
+
+  pub sparing-on : slot ≤ slotCount image → spareOk image (chainOf image) slot ≡ true → Sparing image (slot + 1)
+  sparing-on h e = record {
+    first = omega arith;
+    last = omega arith;
+    onward = sym (spare-at image (chainOf image) (slotCount image) slot h ∙ simp e) ∙ p .onward;
+  }
+
+  pub sparing-end : slotCount image < slot → Passed ≡ sparesCheck image
+  unfolding sparesFrom
+  sparing-end h =
+      let e : slotCount image + 1 - slot ≡ 0 = omega arith in
+      let o : sparesFrom image (chainOf image) slot 0 ≡ sparesCheck image = rw e at (p .onward) in
+      o

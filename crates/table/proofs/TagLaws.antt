@@ -1,0 +1,90 @@
+-- Laws of tags: the form by an index, for the loops of tag::spaces_from and tag::tag_form; tags compared by their numbers, for the
+-- record checks and for find. Only here is `tagForm` taken apart, and nowhere is `tagChar`, but in the proof of tag::tag_char.
+use Prim.Native.Nat.{ℕ, _+_, _≤_, _<_}
+use mathlib.Core.Path.{_≡_, refl, ap, sym}
+use mathlib.Core.List.{List, [], _∷_}
+use mathlib.Core.Bool.{true, false, cond, _&&_}
+use native.Mathlib.Omega.{arith}
+use native.Mathlib.Numerals.{add-one}
+use borrow.Author.Tests.{eq-eqb, ne-eqb, eqb-true, eqb-false, ltb-true, ltb-false}
+use lib.Dec.{ltb, eqb}
+use lib.ListN.{length, getD, drop, length-take, length-drop, List·getD-eq-default}
+use lib.Seq.{drop-cons, drop-length, getD-take, getD-drop, length-take-le}
+use Rattle.words.specs.Word.{number}
+use Rattle.words.proofs.WordLaws.{Bytes, number-injective}
+use Rattle.table.specs.Image.{slotStart, tagOf, HasSlot}
+use Rattle.table.specs.Tag.{tagChar, spaces, padded, tagText, tagForm, sameBytes}
+use Rattle.table.proofs.Logic.{by-test, not-both, and-left}
+
+-- from an index on
+module _ (t : List ℕ) (i : ℕ) where
+  pub spaces-at : i < length t → spaces (drop i t) ≡ (eqb (getD t i 0) 0x20 && spaces (drop (i + 1) t))
+  unfolding spaces
+  spaces-at h = rw (add-one, drop-cons t i 0)
+
+  pub padded-at : i < length t → padded (drop i t) ≡ cond (tagChar (getD t i 0)) (padded (drop (i + 1) t)) (spaces (drop i t))
+  unfolding padded
+  padded-at h = rw (add-one, drop-cons t i 0)
+
+  text-at : i < length t → tagText (drop i t) ≡ (tagChar (getD t i 0) && padded (drop (i + 1) t))
+  unfolding tagText
+  text-at h = rw (add-one, drop-cons t i 0)
+
+  pub spaces-past : i ≡ length t → spaces (drop i t) ≡ true
+  unfolding spaces
+  spaces-past h = rw (h, drop-length)
+
+  pub padded-past : i ≡ length t → padded (drop i t) ≡ true
+  unfolding padded
+  padded-past h = rw (h, drop-length)
+
+-- the form of eight bytes, by the first one
+pub form-first : (t : List ℕ) → length t ≡ 8 → tagForm t ≡ (tagChar (getD t 0 0) && padded (drop 1 t))
+unfolding tagForm
+form-first t e = simp (eq-eqb _ _ e) (text-at t 0 (omega arith))
+
+pub form-short : (t : List ℕ) → (length t ≡ 8 → ⊥) → false ≡ tagForm t
+unfolding tagForm
+form-short t n = simp (ne-eqb _ _ n)
+
+pub form-eight : (t : List ℕ) → tagForm t ≡ true → length t ≡ 8
+unfolding tagForm
+form-eight t h = eqb-true (length t) 8 (and-left _ _ h)
+
+-- the same bytes are equal lists
+pub same-equal : (t u : List ℕ) → sameBytes t u ≡ true → t ≡ u
+unfolding sameBytes
+same-equal [] [] e = refl
+same-equal [] (y ∷ u) e = not-both true refl (sym e)
+same-equal (x ∷ t) [] e = not-both true refl (sym e)
+same-equal (x ∷ t) (y ∷ u) e =
+    by-test (eqb x y)
+    (λ a. let p : x ≡ y = eqb-true x y a in
+    let q : t ≡ u = same-equal t u (simp a at e) in
+    cc)
+    (λ a. not-both true refl (sym (simp a at e)))
+
+pub same-self : (t : List ℕ) → sameBytes t t ≡ true
+unfolding sameBytes
+same-self [] = refl
+same-self (x ∷ t) = simp (eq-eqb x x refl, same-self t)
+
+-- two lists of bytes of one length are the same where their numbers are
+pub same-number : (t u : List ℕ) → length t ≡ length u → Bytes t → Bytes u → sameBytes t u ≡ eqb (number t) (number u)
+same-number t u e b c =
+    by-test (eqb (number t) (number u))
+    (λ h. let q : t ≡ u = number-injective t u e b c (eqb-true _ _ h) in rw (h, q, same-self u))
+    (λ h. by-test (sameBytes t u)
+    (λ s. absurd (eqb-false _ _ h (ap number (same-equal t u s))))
+    (λ s. rw (h, s)))
+
+-- a slot's tag has eight bytes
+pub tag-length : (image : List ℕ) (slot : ℕ) → HasSlot image slot → length (tagOf image slot) ≡ 8
+tag-length image slot h = length-take-le 8 (drop (slotStart slot + 8) image) (rw length-drop (omega arith))
+
+pub tag-bytes : (image : List ℕ) (slot : ℕ) → Bytes image → Bytes (tagOf image slot)
+tag-bytes image slot b i =
+    by-test (ltb i 8)
+    (λ a. rw (getD-take 8 (drop (slotStart slot + 8) image) i 0 (ltb-true i 8 a), getD-drop) (b (slotStart slot + 8 + i)))
+    (λ a. let l : length (tagOf image slot) ≤ i = omega (arith, length-take 8 (drop (slotStart slot + 8) image), ltb-false i 8 a) in
+    rw (List·getD-eq-default (tagOf image slot) 0 l) (omega arith))

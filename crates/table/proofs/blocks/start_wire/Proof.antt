@@ -1,0 +1,28 @@
+-- `blocks::start_wire` meets its contract: block i is the block in the chain's slot i.
+use mathlib.Core.Path.{refl, sym, ap, _∙_}
+use mathlib.Core.Logic.{inl}
+use native.Mathlib.Omega.{arith}
+use Rattle.table.specs.Image.{startWire}
+use Rattle.table.proofs.HeldLaws.{held-has, held-block, held-source}
+use Rattle.table.specs.Blocks.{Block, blockIn}
+use Rattle.table.proofs.blocks.start_wire.Statement.{statement}
+use Rattle.table.proofs.blocks.start_wire.Tie as tie
+
+element-copy-out-wire-at : tie.Need-element-copy-out-wire-at
+element-copy-out-wire-at c = omega (arith, c .before .pre .0 .chain .few)
+
+wire-at-requires : tie.Need-wire-at-requires
+wire-at-requires c κs =
+    let a = c .before .before .args in
+    let has = held-has (a .image .now) (a .count) (a .slots .now) (a .positions .now) (c .before .before .pre .0) (a .i) (c .before .before .pre .1) in
+    let source = held-source (a .image .now) (a .count) (a .slots .now) (a .positions .now) (c .before .before .pre .0) (a .i) (c .before .before .pre .1) startWire (inl refl) in
+    (has, (omega arith, (source, c .before .before .pre .0 .chain .places)))
+
+returns : tie.Need-returns
+unfolding blockIn
+returns c =
+    let a = c .before .before .before .args in
+    c .wire-at .ensures ∙ ap (λ (b : Block). b .start) (sym (held-block (a .image .now) (a .count) (a .slots .now) (a .positions .now) (c .before .before .before .pre .0) (a .i) (c .before .before .before .pre .1)))
+
+pub start-wire-spec : {M : Type 1} → statement M
+start-wire-spec = tie.close (tie.spec element-copy-out-wire-at wire-at-requires returns)

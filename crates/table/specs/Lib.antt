@@ -1,0 +1,11 @@
+pub mod Place
+pub mod Image
+pub mod Header
+pub mod Tag
+pub mod Walk
+pub mod Chain
+pub mod Record
+pub mod Spare
+pub mod Check
+pub mod Lookup
+pub mod Blocks

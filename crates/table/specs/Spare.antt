@@ -1,0 +1,31 @@
+-- Document 01, check 11: "A slot off the chain holds sixteen zeros."
+use Prim.Native.Nat.{ℕ, zero, suc}
+use mathlib.Core.List.{List, [], _∷_}
+use mathlib.Core.Bool.{Bool, true, _&&_, _||_}
+use lib.Dec.{eqb}
+use Rattle.table.specs.Place.{require}
+use Rattle.table.specs.Image.{slotCount, slotBytes}
+use Rattle.table.specs.Walk.{among}
+use Rattle.table.specs.Chain.{chainOf}
+use Rattle.table.specs.declared.place.Place.the-variants.{Slot}
+use Rattle.table.specs.declared.place.Verdict.{Verdict}
+use Rattle.table.specs.declared.place.Verdict.the-variants.{Passed}
+
+-- "sixteen zeros"
+unfoldable pub allZero : List ℕ → Bool
+allZero [] = true
+allZero (b ∷ t) = eqb b 0 && allZero t
+
+-- a slot on the chain, or zeros
+abbrev pub spareOk : List ℕ → List ℕ → ℕ → Bool
+spareOk image chain slot = among slot chain || allZero (slotBytes image slot)
+
+-- "not zero; lowest slot": `left` slots from `slot` on
+unfoldable pub sparesFrom : List ℕ → List ℕ → ℕ → ℕ → Verdict
+sparesFrom image chain slot zero = Passed
+sparesFrom image chain slot (suc left) =
+    require (spareOk image chain slot) 11 (Slot slot)
+    (sparesFrom image chain (suc slot) left)
+
+unfoldable pub sparesCheck : List ℕ → Verdict
+sparesCheck image = sparesFrom image (chainOf image) 1 (slotCount image)

@@ -1,0 +1,82 @@
+// The kind and the wires of a block of an accepted table, by its index on the chain, from 0.
+ghost use mathlib.Core.Path.{_≡_};
+ghost use Prim.Native.Nat.{_<_};
+ghost use Rattle.table.specs.Image.{wireSlot, wireCode, HasSlot};
+ghost use Rattle.table.specs.Chain.{chainOf, Placed};
+ghost use Rattle.table.specs.Check.{Accepted};
+ghost use Rattle.table.specs.Blocks.{wireOf, blocksOf, blockAt};
+use crate::image::ABORT_WIRE;
+use crate::image::KIND;
+use crate::image::START_WIRE;
+use crate::image::slot_byte;
+
+// An input: flag 0 busy, 1 done, 2 error or 3 aborted of the block at a position. Position 0: the input bit of the frame.
+pub struct Wire {
+    pub position: u8,
+    pub flag: u8,
+    pub inverted: bool,
+}
+
+// A wire of a slot, by where its two bytes stand.
+fn wire_at(image: &[u8], positions: &[u8; 65], slot: u8, wire: usize) -> Wire
+    requires { ⌜ HasSlot (now image) slot ⌝ }
+    requires { ⌜ wire < 15 ⌝ }
+    requires { ⌜ wireSlot (now image) slot wire < 65 ⌝ }
+    requires { ⌜ Placed (chainOf (now image)) (now positions) ⌝ }
+    ensures { λ r. ⌜ r ≡ wireOf (chainOf (now (image .entry))) (wireSlot (now (image .entry)) slot wire) (wireCode (now (image .entry)) slot wire) ⌝ }
+{
+    let source = slot_byte(image, slot, wire);
+    let code = slot_byte(image, slot, wire + 1);
+    if source == 0 {
+        return Wire {
+            position: 0,
+            flag: 0,
+            inverted: false,
+        };
+    }
+    let i = source as usize;
+    Wire {
+        position: positions[i],
+        flag: code % 4,
+        inverted: 128 <= code,
+    }
+}
+
+// The kind of block i.
+pub fn kind_at(image: &[u8], slots: &[u8; 64], positions: &[u8; 65], count: usize, i: usize) -> u8
+    requires { ⌜ Accepted (now image) count (now slots) (now positions) ⌝ }
+    requires { ⌜ i < count ⌝ }
+    ensures { λ r. ⌜ r ≡ blockAt (blocksOf (now (image .entry))) i .kind ⌝ }
+{
+    slot_byte(image, slots[i], KIND)
+}
+
+// The start wire of block i.
+pub fn start_wire(
+    image: &[u8],
+    slots: &[u8; 64],
+    positions: &[u8; 65],
+    count: usize,
+    i: usize,
+) -> Wire
+    requires { ⌜ Accepted (now image) count (now slots) (now positions) ⌝ }
+    requires { ⌜ i < count ⌝ }
+    ensures { λ r. ⌜ r ≡ blockAt (blocksOf (now (image .entry))) i .start ⌝ }
+{
+    wire_at(image, positions, slots[i], START_WIRE)
+}
+
+// The abort wire of block i; on a kind without abort, from the frame.
+pub fn abort_wire(
+    image: &[u8],
+    slots: &[u8; 64],
+    positions: &[u8; 65],
+    count: usize,
+    i: usize,
+) -> Wire
+    requires { ⌜ Accepted (now image) count (now slots) (now positions) ⌝ }
+    requires { ⌜ i < count ⌝ }
+    ensures { λ r. ⌜ r ≡ blockAt (blocksOf (now (image .entry))) i .abort ⌝ }
+{
+    wire_at(image, positions, slots[i], ABORT_WIRE)
+}

@@ -1,0 +1,116 @@
+// Checks 7 to 10: the records, in chain order.
+ghost use mathlib.Core.Path.{_≡_};
+ghost use Prim.Native.Nat.{_+_, _<_, _≤_};
+ghost use lib.ListN.{length, take};
+ghost use Rattle.table.specs.Image.{wireSlot, wireCode, HasSlot};
+ghost use Rattle.table.specs.Header.{Headed};
+ghost use Rattle.table.specs.Walk.{among};
+ghost use Rattle.table.specs.Chain.{chainOf, Placed, Holds};
+ghost use Rattle.table.specs.Record.{kindOk, wireOk, abortOk, recordCheck, recordsCheck};
+use crate::chain::on_chain;
+use crate::image::ABORT_WIRE;
+use crate::image::KIND;
+use crate::image::START_WIRE;
+use crate::image::slot_byte;
+use crate::place::Place;
+use crate::place::Verdict;
+use crate::tag::slot_tag_form;
+use crate::tag::tag_number;
+
+// One of the fourteen kinds, and bytes 6 and 7 zero.
+fn kind_ok(image: &[u8], slot: u8) -> bool
+    requires { ⌜ HasSlot (now image) slot ⌝ }
+    ensures { λ r. ⌜ r ≡ kindOk (now (image .entry)) slot ⌝ }
+{
+    let kind = slot_byte(image, slot, KIND);
+    kind::is_kind(kind) & (slot_byte(image, slot, 6) == 0) & (slot_byte(image, slot, 7) == 0)
+}
+
+// A wire from the frame with code 0, or from a slot on the chain with a code of bits 0, 1 and 7.
+fn wire_ok(image: &[u8], positions: &[u8; 65], slot: u8, wire: usize) -> bool
+    requires { ⌜ HasSlot (now image) slot ⌝ }
+    requires { ⌜ wire < 15 ⌝ }
+    requires { ⌜ Placed (chainOf (now image)) (now positions) ⌝ }
+    ensures { λ r. ⌜ r ≡ wireOk (chainOf (now (image .entry))) (wireSlot (now (image .entry)) slot wire) (wireCode (now (image .entry)) slot wire) ⌝ }
+{
+    let source = slot_byte(image, slot, wire);
+    let code = slot_byte(image, slot, wire + 1);
+    if source == 0 {
+        return code == 0;
+    }
+    on_chain(positions, source) & (code % 128 < 4)
+}
+
+// An abort wire as it should be, and none on a kind without abort.
+fn abort_ok(image: &[u8], positions: &[u8; 65], slot: u8) -> bool
+    requires { ⌜ HasSlot (now image) slot ⌝ }
+    requires { ⌜ Placed (chainOf (now image)) (now positions) ⌝ }
+    ensures { λ r. ⌜ r ≡ abortOk (now (image .entry)) (chainOf (now (image .entry))) slot ⌝ }
+{
+    if kind::has_abort(slot_byte(image, slot, KIND)) {
+        return wire_ok(image, positions, slot, ABORT_WIRE);
+    }
+    (slot_byte(image, slot, ABORT_WIRE) == 0) & (slot_byte(image, slot, ABORT_WIRE + 1) == 0)
+}
+
+// Checks 7 to 10 of one record; `repeated`: its tag is that of an earlier block.
+fn check_record(image: &[u8], positions: &[u8; 65], repeated: bool, slot: u8) -> Verdict
+    requires { ⌜ HasSlot (now image) slot ⌝ }
+    requires { ⌜ Placed (chainOf (now image)) (now positions) ⌝ }
+    ensures { λ r. ⌜ r ≡ recordCheck (now (image .entry)) (chainOf (now (image .entry))) repeated slot ⌝ }
+{
+    if !kind_ok(image, slot) {
+        return Verdict::Failed(7, Place::Slot(slot));
+    }
+    if !slot_tag_form(image, slot) {
+        return Verdict::Failed(8, Place::Slot(slot));
+    }
+    if repeated {
+        return Verdict::Failed(9, Place::Slot(slot));
+    }
+    if !wire_ok(image, positions, slot, START_WIRE) {
+        return Verdict::Failed(10, Place::Slot(slot));
+    }
+    if !abort_ok(image, positions, slot) {
+        return Verdict::Failed(10, Place::Slot(slot));
+    }
+    Verdict::Passed
+}
+
+// Whether a tag is among the first n.
+fn tag_among(tags: &[u64; 64], n: usize, tag: u64) -> bool
+    requires { ⌜ (n ≤ 64) × (length (now tags) ≡ 64) ⌝ }
+    ensures { λ r. ⌜ r ≡ among tag (take n (now (tags .entry))) ⌝ }
+{
+    let mut found = false;
+    let mut i: usize = 0;
+    while i < n {
+        if tags[i] == tag {
+            found = true;
+        }
+        i += 1;
+    }
+    found
+}
+
+// Checks 7 to 10 of every record, each through all four before the next.
+pub fn check_records(image: &[u8], slots: &[u8; 64], positions: &[u8; 65], count: usize) -> Verdict
+    requires { ⌜ Headed (now image) ⌝ }
+    requires { ⌜ Holds (chainOf (now image)) count (now slots) (now positions) ⌝ }
+    ensures { λ r. ⌜ r ≡ recordsCheck (now (image .entry)) ⌝ }
+{
+    let mut tags = [0u64; 64];
+    let mut i: usize = 0;
+    while i < count {
+        let slot = slots[i];
+        let tag = tag_number(image, slot);
+        let repeated = tag_among(&tags, i, tag);
+        let verdict = check_record(image, positions, repeated, slot);
+        let Verdict::Passed = verdict else {
+            return verdict;
+        };
+        tags[i] = tag;
+        i += 1;
+    }
+    Verdict::Passed
+}

@@ -1,0 +1,48 @@
+// Check 11: the slots off the chain.
+ghost use mathlib.Core.Path.{_≡_};
+ghost use Rattle.table.specs.Image.{slotBytes, HasSlot};
+ghost use Rattle.table.specs.Header.{Headed};
+ghost use Rattle.table.specs.Chain.{chainOf, Placed};
+ghost use Rattle.table.specs.Spare.{allZero, spareOk, sparesCheck};
+use crate::chain::on_chain;
+use crate::image::slot_start;
+use crate::place::Place;
+use crate::place::Verdict;
+
+// Whether all sixteen bytes of a slot are zero.
+fn slot_zero(image: &[u8], slot: u8) -> bool
+    requires { ⌜ HasSlot (now image) slot ⌝ }
+    ensures { λ r. ⌜ r ≡ allZero (slotBytes (now (image .entry)) slot) ⌝ }
+{
+    let start = slot_start(slot);
+    (words::u64_at(image, start) == 0) & (words::u64_at(image, start + 8) == 0)
+}
+
+// A slot on the chain, or sixteen zeros.
+fn spare_ok(image: &[u8], positions: &[u8; 65], slot: u8) -> bool
+    requires { ⌜ HasSlot (now image) slot ⌝ }
+    requires { ⌜ Placed (chainOf (now image)) (now positions) ⌝ }
+    ensures { λ r. ⌜ r ≡ spareOk (now (image .entry)) (chainOf (now (image .entry))) slot ⌝ }
+{
+    if on_chain(positions, slot) {
+        return true;
+    }
+    slot_zero(image, slot)
+}
+
+// The slots from the lowest on.
+pub fn check_spares(image: &[u8], positions: &[u8; 65]) -> Verdict
+    requires { ⌜ Headed (now image) ⌝ }
+    requires { ⌜ Placed (chainOf (now image)) (now positions) ⌝ }
+    ensures { λ r. ⌜ r ≡ sparesCheck (now (image .entry)) ⌝ }
+{
+    let n = image[1];
+    let mut slot: u8 = 1;
+    while slot <= n {
+        if !spare_ok(image, positions, slot) {
+            return Verdict::Failed(11, Place::Slot(slot));
+        }
+        slot += 1;
+    }
+    Verdict::Passed
+}

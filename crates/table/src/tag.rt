@@ -1,0 +1,69 @@
+// Tags: one or more of A-Z and 0-9, then spaces to eight bytes.
+ghost use mathlib.Core.Path.{_≡_};
+ghost use Prim.Native.Nat.{_≤_};
+ghost use lib.ListN.{length, drop};
+ghost use Rattle.words.specs.Word.{number};
+ghost use Rattle.table.specs.Image.{tagOf, HasSlot};
+ghost use Rattle.table.specs.Tag.{tagChar, spaces, tagForm};
+use crate::image::TAG;
+use crate::image::slot_start;
+
+// A-Z and 0-9.
+fn tag_char(b: u8) -> bool
+    ensures { λ r. ⌜ r ≡ tagChar b ⌝ }
+{
+    ((65 <= b) & (b <= 90)) | ((48 <= b) & (b <= 57))
+}
+
+// Whether all bytes from an index on are spaces.
+fn spaces_from(tag: &[u8], from: usize) -> bool
+    requires { ⌜ from ≤ length (now tag) ⌝ }
+    ensures { λ r. ⌜ r ≡ spaces (drop from (now (tag .entry))) ⌝ }
+{
+    let mut i = from;
+    while i < tag.len() {
+        if tag[i] != 0x20 {
+            return false;
+        }
+        i += 1;
+    }
+    true
+}
+
+// Eight bytes in tag form.
+pub fn tag_form(tag: &[u8]) -> bool
+    ensures { λ r. ⌜ r ≡ tagForm (now (tag .entry)) ⌝ }
+{
+    if tag.len() != 8 {
+        return false;
+    }
+    if !tag_char(tag[0]) {
+        return false;
+    }
+    let mut i = 1;
+    while i < tag.len() {
+        if !tag_char(tag[i]) {
+            return spaces_from(tag, i);
+        }
+        i += 1;
+    }
+    true
+}
+
+// Whether a slot's tag is in form.
+pub fn slot_tag_form(image: &[u8], slot: u8) -> bool
+    requires { ⌜ HasSlot (now image) slot ⌝ }
+    ensures { λ r. ⌜ r ≡ tagForm (tagOf (now (image .entry)) slot) ⌝ }
+{
+    let start = slot_start(slot) + TAG;
+    let end = start + 8;
+    tag_form(&image[start..end])
+}
+
+// A slot's tag as one number: two tags are the same where their numbers are.
+pub fn tag_number(image: &[u8], slot: u8) -> u64
+    requires { ⌜ HasSlot (now image) slot ⌝ }
+    ensures { λ r. ⌜ r ≡ number (tagOf (now (image .entry)) slot) ⌝ }
+{
+    words::u64_at(image, slot_start(slot) + TAG)
+}

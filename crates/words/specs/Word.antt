@@ -1,0 +1,18 @@
+-- Document 01: "Values are little-endian". Numbers in bytes, for every width.
+use Prim.Native.Nat.{ℕ, zero, suc, _+_, _*_, _/_, _%_}
+use mathlib.Core.List.{List, [], _∷_}
+use lib.ListN.{take, drop}
+
+-- the number that bytes stand for, the lowest byte first
+unfoldable pub number : List ℕ → ℕ
+number [] = 0
+number (b ∷ bs) = b + 256 * number bs
+
+-- the `width` lowest bytes of a number, the lowest first
+unfoldable pub bytes : ℕ → ℕ → List ℕ
+bytes zero x = []
+bytes (suc width) x = x % 256 ∷ bytes width (x / 256)
+
+-- the number in the `width` bytes of s from place i on
+abbrev pub numberAt : ℕ → List ℕ → ℕ → ℕ
+numberAt width s i = number (take width (drop i s))

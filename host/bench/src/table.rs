@@ -1,0 +1,58 @@
+//! The table check and the lookup at 1, 8 and 64 blocks, all wired.
+
+use crate::timing::{head, line, nanoseconds};
+use lane::{ffi, image, Block, Engine, Flag, Kind, Tag, Wire};
+use reference::table;
+use std::hint::black_box;
+
+/// Numbers of blocks that are measured.
+const SIZES: [usize; 3] = [1, 8, 64];
+
+/// What is measured beside the engine.
+const OTHERS: [&str; 1] = ["reference"];
+
+/// The tag of a position.
+fn tag(position: usize) -> Tag {
+    Tag::new(&format!("LANE{position}")).expect("a tag in form")
+}
+
+/// A table of blocks with a wire on each input, of all kinds in turn.
+fn wired(blocks: usize) -> Vec<u8> {
+    let block = |index: usize| {
+        let kind = Kind::ALL[(index + 4) % Kind::ALL.len()];
+        let from = |step: usize, flag| Wire::new(((index + step) % blocks) as u8 + 1, flag);
+        let block = Block::new(kind, tag(index + 1)).start(from(blocks - 1, Flag::Done));
+        match kind.number() {
+            5..=8 => block.abort(from(1, Flag::Error).inverted()),
+            _ => block,
+        }
+    };
+    image(&(0..blocks).map(block).collect::<Vec<_>>())
+}
+
+/// Measures and prints.
+pub fn run() {
+    println!("Nanoseconds a call (median), the engine's ratio to the reference, its growth.");
+    println!("Table: every input has a wire. Nothing is written, so no buffer is cleared.");
+    head(&OTHERS);
+    let mut first = [None; 3];
+    for blocks in SIZES {
+        let table = wired(blocks);
+        Engine::new(&table).expect("an accepted table");
+        let image = || black_box(&table[..]);
+        let (last, absent) = (tag(blocks), tag(99));
+        let check = nanoseconds([&mut || _ = black_box(ffi::check(image())), &mut || {
+            _ = black_box(table::check(image()))
+        }]);
+        let [found, absent] = [last, absent].map(|tag| {
+            nanoseconds([
+                &mut || _ = black_box(ffi::find(image(), tag.as_ref())),
+                &mut || _ = black_box(table::find(image(), tag.as_ref())),
+            ])
+        });
+        let names = ["check", "find, the last", "find, absent"];
+        for ((name, times), first) in names.iter().zip([check, found, absent]).zip(&mut first) {
+            line(name, blocks, &OTHERS, &times, first);
+        }
+    }
+}

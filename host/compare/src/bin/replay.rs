@@ -1,0 +1,22 @@
+//! Runs one call again through the engine and the reference:
+//!
+//!     cargo run -p compare --bin replay -- check xIMAGE
+//!     cargo run -p compare --bin replay -- find xIMAGE xTAG
+
+use std::env;
+use std::process::ExitCode;
+
+fn main() -> ExitCode {
+    let words: Vec<String> = env::args().skip(1).collect();
+    let words: Vec<&str> = words.iter().map(String::as_str).collect();
+    match compare::check::run(&words).map(compare::text::answer) {
+        Ok(text) => {
+            println!("both give {text}");
+            ExitCode::SUCCESS
+        }
+        Err(message) => {
+            eprintln!("{message}");
+            ExitCode::FAILURE
+        }
+    }
+}

@@ -1,0 +1,18 @@
+//! The entry points over plain bytes. Only this module has `unsafe` code.
+//!
+//! Every function takes slices of any length and content, and answers a value or a refusal.
+
+mod table;
+
+pub use table::{check, find};
+
+use crate::Refusal;
+
+/// An answer as the archive packs it: a value below 2^32, or number × 2^32 + place.
+fn unpack(answer: u64) -> Result<u32, Refusal> {
+    let low = answer as u32;
+    match (answer >> 32) as u32 {
+        0 => Ok(low),
+        number => Err(Refusal::new(number, low)),
+    }
+}

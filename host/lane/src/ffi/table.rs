@@ -1,0 +1,58 @@
+//! `lane_check` and `lane_find`, which only read.
+
+use super::unpack;
+use crate::Refusal;
+
+extern "C" {
+    fn lane_check(image: *const u8, image_len: usize) -> u64;
+    fn lane_find(image: *const u8, image_len: usize, tag: *const u8, tag_len: usize) -> u64;
+}
+
+/// Checks a table image: the number of its blocks.
+///
+/// ```
+/// // The least table: no block, one spare slot.
+/// let mut image = [0; 20];
+/// image[..2].copy_from_slice(&[1, 1]);
+/// assert_eq!(lane::ffi::check(&image), Ok(0));
+/// assert_eq!(lane::ffi::check(&[]).unwrap_err().number(), 1);
+/// ```
+pub fn check(image: &[u8]) -> Result<u32, Refusal> {
+    // SAFETY: the pointer and the length are those of a slice borrowed for the whole call, in
+    // which the function only reads.
+    unpack(unsafe { lane_check(image.as_ptr(), image.len()) })
+}
+
+/// Checks a table image and finds the block with a tag: its position in the chain, from 1.
+///
+/// ```
+/// let mut image = *b"\x01\x01\x01\0\x01\0\0\0\0\0\0\0LANE0   ";
+/// assert_eq!(lane::ffi::find(&image, b"LANE0   "), Ok(1));
+/// assert_eq!(lane::ffi::find(&image, b"LANEO   ").unwrap_err().number(), 51);
+/// assert_eq!(lane::ffi::find(&image, b"LANE0").unwrap_err().number(), 50);
+/// image[0] = 2;
+/// assert_eq!(lane::ffi::find(&image, b"LANE0").unwrap_err().number(), 2);
+/// ```
+pub fn find(image: &[u8], tag: &[u8]) -> Result<u32, Refusal> {
+    // SAFETY: the pointers and the lengths are those of slices borrowed for the whole call, in
+    // which the function only reads.
+    unpack(unsafe { lane_find(image.as_ptr(), image.len(), tag.as_ptr(), tag.len()) })
+}
+
+#[cfg(test)]
+mod tests {
+    use super::*;
+    use std::ptr::null;
+
+    #[test]
+    fn empty_slices_may_be_null() {
+        // SAFETY: no byte is read through the pointer of an empty slice.
+        let (check, find) = unsafe { (lane_check(null(), 0), lane_find(null(), 0, null(), 0)) };
+        assert_eq!(unpack(check), Err(Refusal::new(1, 0)));
+        assert_eq!(unpack(find), Err(Refusal::new(1, 0)));
+        let least = [&[1, 1, 0, 0][..], &[0; 16]].concat();
+        // SAFETY: the pointer and the length are those of a slice; the other one is empty.
+        let find = unsafe { lane_find(least.as_ptr(), least.len(), null(), 0) };
+        assert_eq!(unpack(find), Err(Refusal::new(50, 0)));
+    }
+}

@@ -1,0 +1,105 @@
+//! Why a call was turned back, and where.
+
+use std::error::Error;
+use std::fmt;
+
+/// A call turned back: the number of the first check that failed, and its place.
+///
+/// ```
+/// use lane::{Place, Refusal};
+///
+/// let refusal = Refusal::new(9, 3);
+/// assert_eq!(refusal.number(), 9);
+/// assert_eq!(refusal.place(), Place::Slot(3));
+/// assert_eq!(
+///     refusal.to_string(),
+///     "refusal 9 at slot 3: an earlier block of the chain has this tag"
+/// );
+/// ```
+#[derive(Clone, Copy, Debug, PartialEq, Eq, Hash)]
+pub struct Refusal {
+    number: u32,
+    place: u32,
+}
+
+/// Where a check failed.
+#[derive(Clone, Copy, Debug, PartialEq, Eq, Hash)]
+pub enum Place {
+    /// The check names no slot or position.
+    Unnamed,
+    /// A slot of the table image, from 1.
+    Slot(u32),
+    /// A block by its position in the chain, from 1.
+    Position(u32),
+}
+
+impl Refusal {
+    /// The refusal with the numbers of an answer; place 0 names none.
+    pub const fn new(number: u32, place: u32) -> Refusal {
+        Refusal { number, place }
+    }
+
+    /// The number of the check.
+    pub const fn number(self) -> u32 {
+        self.number
+    }
+
+    /// The number of the slot or position, 0 if none is named.
+    pub const fn place_number(self) -> u32 {
+        self.place
+    }
+
+    /// The place, by what the check counts: slots of the table, or positions of the chain.
+    pub const fn place(self) -> Place {
+        match (self.number, self.place) {
+            (_, 0) => Place::Unnamed,
+            (1..=11, slot) => Place::Slot(slot),
+            (_, position) => Place::Position(position),
+        }
+    }
+
+    /// What the check asks for and didn't find.
+    pub const fn reason(self) -> &'static str {
+        match (self.number, self.place) {
+            (1, _) => "the table is shorter than its header of 4 bytes",
+            (2, _) => "the table's version is not 1, or byte 3 of its header is not zero",
+            (3, _) => "the table's slot count is not 1 to 64",
+            (4, _) => "the table's length is not 4 bytes and 16 a slot",
+            (5, 0) => "the head of the chain is above the slot count",
+            (5, _) => "its next slot is above the slot count",
+            (6, _) => "its next slot was already met on the chain",
+            (7, _) => "its kind is not 1 to 14, or its bytes 6-7 are not zero",
+            (8, _) => "its tag is not one or more of A-Z and 0-9, then spaces to eight bytes",
+            (9, _) => "an earlier block of the chain has this tag",
+            (10, _) => {
+                "a wire of it comes from a slot off the chain, has a code out of form, \
+                 or is an abort wire on a kind without one"
+            }
+            (11, _) => "it is off the chain and not all zero",
+            (50, _) => "the tag to find is not eight bytes in the form of a tag",
+            (51, _) => "no block of the table has this tag",
+            _ => "no check has this number",
+        }
+    }
+}
+
+impl fmt::Display for Place {
+    fn fmt(&self, f: &mut fmt::Formatter<'_>) -> fmt::Result {
+        match self {
+            Place::Unnamed => f.write_str("no named place"),
+            Place::Slot(slot) => write!(f, "slot {slot}"),
+            Place::Position(position) => write!(f, "position {position}"),
+        }
+    }
+}
+
+impl fmt::Display for Refusal {
+    fn fmt(&self, f: &mut fmt::Formatter<'_>) -> fmt::Result {
+        match self.place() {
+            Place::Unnamed => write!(f, "refusal {}: {}", self.number, self.reason()),
+            place => write!(f, "refusal {} at {place}: {}", self.number, self.reason()),
+        }
+    }
+}
+
+impl Error for Refusal {}

@@ -1,0 +1,239 @@
+//! Blocks, and the table image that holds them.
+
+use std::fmt;
+
+/// Bytes of an image's header.
+pub const HEADER_BYTES: usize = 4;
+
+/// Bytes of one slot.
+pub const SLOT_BYTES: usize = 16;
+
+/// The greatest number of blocks, and of slots.
+pub const MAX_BLOCKS: usize = 64;
+
+/// The kind of a block, by its PLCopen name: A abort input, TI time limit, To time-out,
+/// C continuous.
+#[derive(Clone, Copy, Debug, PartialEq, Eq, Hash)]
+#[repr(u8)]
+pub enum Kind {
+    /// Edge triggered.
+    ETrig = 1,
+    /// Edge triggered, time limit.
+    ETrigTI,
+    /// Edge triggered, time-out.
+    ETrigTo,
+    /// Edge triggered, time limit and time-out.
+    ETrigTITo,
+    /// Edge triggered, abort.
+    ETrigA,
+    /// Edge triggered, abort and time limit.
+    ETrigATI,
+    /// Edge triggered, abort and time-out.
+    ETrigATo,
+    /// Edge triggered, abort, time limit and time-out.
+    ETrigATITo,
+    /// Level controlled.
+    LCon,
+    /// Level controlled, time limit.
+    LConTI,
+    /// Level controlled, time-out.
+    LConTo,
+    /// Level controlled, time limit and time-out.
+    LConTITo,
+    /// Level controlled, continuous.
+    LConC,
+    /// Level controlled, continuous, time limit.
+    LConTIC,
+}
+
+impl Kind {
+    /// All kinds, in the order of their numbers.
+    pub const ALL: [Kind; 14] = [
+        Kind::ETrig,
+        Kind::ETrigTI,
+        Kind::ETrigTo,
+        Kind::ETrigTITo,
+        Kind::ETrigA,
+        Kind::ETrigATI,
+        Kind::ETrigATo,
+        Kind::ETrigATITo,
+        Kind::LCon,
+        Kind::LConTI,
+        Kind::LConTo,
+        Kind::LConTITo,
+        Kind::LConC,
+        Kind::LConTIC,
+    ];
+
+    /// The number of the kind, 1 to 14.
+    pub const fn number(self) -> u8 {
+        self as u8
+    }
+}
+
+/// A tag in its form: one or more of A-Z and 0-9, then spaces to eight bytes.
+///
+/// ```
+/// use lane::Tag;
+///
+/// assert_eq!(Tag::new("LANE0").unwrap().as_ref(), b"LANE0   ");
+/// assert_ne!(Tag::new("LANE0"), Tag::new("LANEO"));
+/// assert_eq!(Tag::new("lane0"), None);
+/// assert_eq!(Tag::new("LANE00001"), None);
+/// ```
+#[derive(Clone, Copy, Debug, PartialEq, Eq, Hash, PartialOrd, Ord)]
+pub struct Tag([u8; 8]);
+
+impl Tag {
+    /// The tag with this name, 1 to 8 of A-Z and 0-9.
+    pub fn new(name: &str) -> Option<Tag> {
+        let mut bytes = [b' '; 8];
+        bytes
+            .get_mut(..name.len())?
+            .copy_from_slice(name.as_bytes());
+        let formed = |byte: u8| byte.is_ascii_uppercase() || byte.is_ascii_digit();
+        (!name.is_empty() && name.bytes().all(formed)).then_some(Tag(bytes))
+    }
+}
+
+impl AsRef<[u8]> for Tag {
+    fn as_ref(&self) -> &[u8] {
+        &self.0
+    }
+}
+
+impl fmt::Display for Tag {
+    fn fmt(&self, f: &mut fmt::Formatter<'_>) -> fmt::Result {
+        let name: String = self.0.iter().map(|&byte| char::from(byte)).collect();
+        f.pad(name.trim_end())
+    }
+}
+
+/// A flag of a block that a wire can read.
+#[derive(Clone, Copy, Debug, PartialEq, Eq, Hash)]
+#[repr(u8)]
+pub enum Flag {
+    /// A job is open, or its withdrawal is being reset.
+    Busy,
+    /// The job is done.
+    Done,
+    /// The job failed.
+    Error,
+    /// The job was aborted.
+    Aborted,
+}
+
+/// An input that reads a flag of a block instead of the frame's bit.
+#[derive(Clone, Copy, Debug, PartialEq, Eq, Hash)]
+pub struct Wire {
+    /// The slot of the block whose flag is read.
+    pub slot: u8,
+    /// The flag.
+    pub flag: Flag,
+    /// Whether the input is the flag's opposite.
+    pub inverted: bool,
+}
+
+impl Wire {
+    /// The wire that reads this flag as it is.
+    pub const fn new(slot: u8, flag: Flag) -> Wire {
+        Wire {
+            slot,
+            flag,
+            inverted: false,
+        }
+    }
+
+    /// The wire that reads the flag's opposite.
+    pub const fn inverted(self) -> Wire {
+        Wire {
+            inverted: !self.inverted,
+            ..self
+        }
+    }
+
+    /// The two bytes of a wire in its slot.
+    const fn encode(self) -> [u8; 2] {
+        [self.slot, self.flag as u8 | (self.inverted as u8) << 7]
+    }
+}
+
+/// One block of a table.
+#[derive(Clone, Copy, Debug, PartialEq, Eq, Hash)]
+pub struct Block {
+    /// Its kind.
+    pub kind: Kind,
+    /// Its tag.
+    pub tag: Tag,
+    /// The wire of its start input (Execute or Enable), if it doesn't come from the frame.
+    pub start: Option<Wire>,
+    /// The wire of its abort input, if it doesn't come from the frame.
+    pub abort: Option<Wire>,
+}
+
+impl Block {
+    /// The block of this kind and tag without wires.
+    pub const fn new(kind: Kind, tag: Tag) -> Block {
+        Block {
+            kind,
+            tag,
+            start: None,
+            abort: None,
+        }
+    }
+
+    /// The block with its start input from a wire.
+    pub const fn start(self, wire: Wire) -> Block {
+        Block {
+            start: Some(wire),
+            ..self
+        }
+    }
+
+    /// The block with its abort input from a wire.
+    pub const fn abort(self, wire: Wire) -> Block {
+        Block {
+            abort: Some(wire),
+            ..self
+        }
+    }
+
+    /// The sixteen bytes of the block's slot.
+    fn encode(&self, next: u8) -> [u8; SLOT_BYTES] {
+        let [start, start_code] = self.start.map_or([0, 0], Wire::encode);
+        let [abort, abort_code] = self.abort.map_or([0, 0], Wire::encode);
+        let mut slot = [0; SLOT_BYTES];
+        slot[..6].copy_from_slice(&[
+            self.kind.number(),
+            next,
+            start,
+            start_code,
+            abort,
+            abort_code,
+        ]);
+        slot[8..].copy_from_slice(self.tag.as_ref());
+        slot
+    }
+}
+
+/// The table image of these blocks: the k-th block in slot k, at position k, without spare slots;
+/// of no blocks, one spare slot.
+///
+/// Only [`Engine::new`](crate::Engine::new) says whether the engine accepts it.
+///
+/// # Panics
+/// With more than 64 blocks.
+pub fn image(blocks: &[Block]) -> Vec<u8> {
+    assert!(
+        blocks.len() <= MAX_BLOCKS,
+        "more than {MAX_BLOCKS} blocks in one table"
+    );
+    let count = blocks.len() as u8;
+    let mut image = vec![1, count.max(1), count.min(1), 0];
+    for (block, slot) in blocks.iter().zip(1..) {
+        let next = if slot < count { slot + 1 } else { 0 };
+        image.extend_from_slice(&block.encode(next));
+    }
+    image.resize(image.len().max(HEADER_BYTES + SLOT_BYTES), 0);
+    image
+}

@@ -1,0 +1,12 @@
+//! A plain statement of the rules of the lane engine, written from the scope
+//! document alone.
+//!
+//! - [`table`]: the table image, its checks, and the lookup of a tag.
+//!
+//! No function here allocates, and none panics, whatever the length or content
+//! of its input. All numbers are little-endian: "Values are little-endian,
+//! decimal unless marked 0x; unnamed bytes are zero."
+
+#![forbid(unsafe_code)]
+
+pub mod table;

@@ -1,0 +1,290 @@
+//! The table checks 1 to 11 and the lookup, 50 and 51, with their places and
+//! their order.
+
+use reference::table::{chain, check, find, show, Refusal};
+
+/// A slot: kind, next, start wire, abort wire, tag.
+type Row = (u8, u8, [u8; 2], [u8; 2], &'static [u8; 8]);
+
+const SPARE: Row = (0, 0, [0, 0], [0, 0], &[0; 8]);
+
+fn image(head: u8, rows: &[Row]) -> Vec<u8> {
+    let mut bytes = vec![1, rows.len() as u8, head, 0];
+    for (kind, next, start, abort, tag) in rows {
+        bytes.extend_from_slice(&[*kind, *next]);
+        bytes.extend_from_slice(start);
+        bytes.extend_from_slice(abort);
+        bytes.extend_from_slice(&[0, 0]);
+        bytes.extend_from_slice(*tag);
+    }
+    bytes
+}
+
+fn row(kind: u8, next: u8, tag: &'static [u8; 8]) -> Row {
+    (kind, next, [0, 0], [0, 0], tag)
+}
+
+/// Three blocks in the order of slots 2, 4, 1, and a spare slot 3.
+fn good() -> Vec<u8> {
+    image(
+        2,
+        &[
+            (5, 0, [2, 0x81], [1, 0x03], b"LANE1   "),
+            row(1, 4, b"LANE2   "),
+            SPARE,
+            (14, 1, [1, 0x80], [0, 0], b"ABCDEFGH"),
+        ],
+    )
+}
+
+/// The good image with one byte of a slot replaced.
+fn with(slot: usize, byte: usize, value: u8) -> Vec<u8> {
+    let mut bytes = good();
+    bytes[4 + 16 * (slot - 1) + byte] = value;
+    bytes
+}
+
+fn no<T>(number: u8, place: u8) -> Result<T, Refusal> {
+    Err(Refusal { number, place })
+}
+
+#[test]
+fn accepted() {
+    assert_eq!(check(&good()), Ok(3));
+    assert_eq!(check(&image(0, &[SPARE])), Ok(0));
+    assert_eq!(check(&image(0, &[SPARE; 64])), Ok(0));
+    let table = good();
+    let table = chain(&table).unwrap();
+    assert_eq!(table.count(), 3);
+    let slots: Vec<u8> = table.blocks().map(|(slot, _)| slot).collect();
+    assert_eq!(slots, [2, 4, 1]);
+    let positions: Vec<u8> = (0..=5).map(|slot| table.position(slot)).collect();
+    assert_eq!(positions, [0, 3, 1, 0, 2, 0]);
+}
+
+#[test]
+fn accepted_with_64_blocks() {
+    let mut bytes = vec![1, 64, 64, 0];
+    for slot in 1..=64u8 {
+        let tag = [b'T', b'0' + slot / 10, b'0' + slot % 10];
+        bytes.extend_from_slice(&[1 + slot % 14, slot - 1, 64, 0, 0, 0, 0, 0]);
+        bytes.extend_from_slice(&tag);
+        bytes.extend_from_slice(b"     ");
+    }
+    assert_eq!(check(&bytes), Ok(64));
+    assert_eq!(find(&bytes, b"T64     "), Ok(1));
+    assert_eq!(find(&bytes, b"T01     "), Ok(64));
+    bytes[4 + 1] = 64;
+    assert_eq!(check(&bytes), no(6, 1));
+}
+
+#[test]
+fn header() {
+    for length in 0..4 {
+        assert_eq!(check(&good()[..length]), no(1, 0));
+    }
+    for (at, value) in [(0, 0), (0, 2), (3, 1)] {
+        let mut bytes = good();
+        bytes[at] = value;
+        assert_eq!(check(&bytes), no(2, 0));
+    }
+    for count in [0, 65, 255] {
+        let mut bytes = good();
+        bytes[1] = count;
+        assert_eq!(check(&bytes), no(3, 0));
+    }
+    assert_eq!(check(&[1, 0, 0, 0]), no(3, 0));
+    assert_eq!(check(&good()[..67]), no(4, 0));
+    assert_eq!(check(&[good(), vec![0]].concat()), no(4, 0));
+    assert_eq!(check(&[good(), vec![0; 16]].concat()), no(4, 0));
+    let full = image(0, &[SPARE; 65]);
+    assert_eq!(check(&full), no(3, 0));
+}
+
+#[test]
+fn header_order() {
+    assert_eq!(check(&[2, 0, 9]), no(1, 0));
+    assert_eq!(check(&[2, 0, 9, 0]), no(2, 0));
+    assert_eq!(check(&[1, 0, 9, 1]), no(2, 0));
+    assert_eq!(check(&[1, 0, 9, 0]), no(3, 0));
+    assert_eq!(check(&[1, 1, 9, 0]), no(4, 0));
+}
+
+#[test]
+fn walk() {
+    for head in [5, 64, 255] {
+        let mut bytes = good();
+        bytes[2] = head;
+        assert_eq!(check(&bytes), no(5, 0));
+    }
+    assert_eq!(check(&with(1, 1, 5)), no(5, 1));
+    assert_eq!(check(&with(2, 1, 255)), no(5, 2));
+    assert_eq!(check(&with(1, 1, 2)), no(6, 1));
+    assert_eq!(check(&with(1, 1, 1)), no(6, 1));
+    assert_eq!(check(&with(4, 1, 2)), no(6, 4));
+    // The next of a slot off the chain is not on the walk.
+    assert_eq!(check(&with(3, 1, 9)), no(11, 3));
+}
+
+#[test]
+fn walk_before_records() {
+    let mut bytes = with(2, 0, 0);
+    bytes[4 + 1] = 99;
+    assert_eq!(check(&bytes), no(5, 1));
+    bytes[4 + 1] = 4;
+    assert_eq!(check(&bytes), no(6, 1));
+    bytes[4 + 1] = 0;
+    assert_eq!(check(&bytes), no(7, 2));
+}
+
+#[test]
+fn kind() {
+    for kind in [0, 15, 255] {
+        assert_eq!(check(&with(4, 0, kind)), no(7, 4));
+    }
+    assert_eq!(check(&with(4, 6, 1)), no(7, 4));
+    assert_eq!(check(&with(4, 7, 1)), no(7, 4));
+    for kind in 1..=14 {
+        assert_eq!(check(&with(2, 0, kind)), Ok(3));
+    }
+}
+
+#[test]
+fn tag() {
+    let bad: [&[u8; 8]; 8] = [
+        b"        ",
+        b" LANE   ",
+        b"LANE 1  ",
+        b"lane1   ",
+        b"LANE_1  ",
+        b"LANE1\0\0\0",
+        b"ABCDEFG\x80",
+        b"ABCDEFG[",
+    ];
+    for tag in bad {
+        let mut bytes = good();
+        bytes[4 + 8..4 + 16].copy_from_slice(tag);
+        assert_eq!(check(&bytes), no(8, 1));
+        assert_eq!(find(&good(), tag), no(50, 0));
+    }
+    for tag in [b"A       ", b"0       ", b"AZ09AZ09"] {
+        let mut bytes = good();
+        bytes[4 + 8..4 + 16].copy_from_slice(tag);
+        assert_eq!(check(&bytes), Ok(3));
+        assert_eq!(find(&bytes, tag), Ok(3));
+    }
+    // The later of two equal tags in chain order is slot 1, not slot 2.
+    assert_eq!(check(&with(1, 12, b'2')), no(9, 1));
+}
+
+#[test]
+fn wires() {
+    // The slot of a start wire: spare, above N, and 0 with a code.
+    assert_eq!(check(&with(1, 2, 3)), no(10, 1));
+    assert_eq!(check(&with(1, 2, 5)), no(10, 1));
+    assert_eq!(check(&with(1, 2, 255)), no(10, 1));
+    assert_eq!(check(&with(1, 2, 0)), no(10, 1));
+    assert_eq!(check(&with(1, 4, 3)), no(10, 1));
+    assert_eq!(check(&with(1, 4, 0)), no(10, 1));
+    for code in 0..=255 {
+        let answer = if code & 0x7c == 0 { Ok(3) } else { no(10, 1) };
+        assert_eq!(check(&with(1, 3, code)), answer);
+        assert_eq!(check(&with(1, 5, code)), answer);
+    }
+    // Kinds without an abort wire have neither its slot nor its code.
+    for kind in 1..=14 {
+        let abort = (5..=8).contains(&kind);
+        let answer = if abort { Ok(3) } else { no(10, 1) };
+        assert_eq!(check(&with(1, 0, kind)), answer);
+        let mut code_only = with(2, 0, kind);
+        code_only[4 + 16 + 5] = 1;
+        assert_eq!(check(&code_only), no(10, 2));
+    }
+}
+
+#[test]
+fn record_order() {
+    // Each block through 7, 8, 9, 10 before the next: slots 2, 4, 1.
+    let mut bytes = with(1, 0, 0);
+    assert_eq!(check(&bytes), no(7, 1));
+    bytes[4 + 48 + 3] = 4;
+    assert_eq!(check(&bytes), no(10, 4));
+    bytes[4 + 48 + 8..4 + 64].copy_from_slice(b"LANE2   ");
+    assert_eq!(check(&bytes), no(9, 4));
+    bytes[4 + 48 + 8] = b' ';
+    assert_eq!(check(&bytes), no(8, 4));
+    bytes[4 + 48] = 0;
+    assert_eq!(check(&bytes), no(7, 4));
+    bytes[4 + 16 + 3] = 1;
+    assert_eq!(check(&bytes), no(10, 2));
+}
+
+#[test]
+fn spare() {
+    for byte in 0..16 {
+        assert_eq!(check(&with(3, byte, 1)), no(11, 3));
+    }
+    let mut bytes = image(2, &[SPARE, row(1, 0, b"A       "), SPARE, SPARE]);
+    bytes[4 + 63] = 0x20;
+    assert_eq!(check(&bytes), no(11, 4));
+    bytes[4 + 32] = 1;
+    assert_eq!(check(&bytes), no(11, 3));
+    bytes[4] = 1;
+    assert_eq!(check(&bytes), no(11, 1));
+    bytes[4 + 16] = 0;
+    assert_eq!(check(&bytes), no(7, 2));
+}
+
+#[test]
+fn lookup() {
+    let bytes = good();
+    for (tag, position, slot) in [
+        (b"LANE2   ", 1, 2),
+        (b"ABCDEFGH", 2, 4),
+        (b"LANE1   ", 3, 1),
+    ] {
+        assert_eq!(find(&bytes, tag), Ok(position));
+        let shown = show(&bytes, tag);
+        let at = 4 + 16 * (slot - 1);
+        assert_eq!(shown, &bytes[at..at + 16]);
+        assert!(std::ptr::eq(shown, &bytes[at..at + 16]));
+    }
+    let refused: [(&[u8], u8); 6] = [
+        (b"", 50),
+        (b"LANE1", 50),
+        (b"LANE1    ", 50),
+        (b"lane1   ", 50),
+        (b"LANE3   ", 51),
+        (b"LANE    ", 51),
+    ];
+    for (tag, number) in refused {
+        assert_eq!(find(&bytes, tag), no(number, 0));
+        assert_eq!(show(&bytes, tag), b"");
+    }
+    assert_eq!(find(&image(0, &[SPARE]), b"LANE1   "), no(51, 0));
+    // The table first: 11 before 50.
+    assert_eq!(find(&with(3, 0, 1), b""), no(11, 3));
+    assert_eq!(show(&with(3, 0, 1), b"LANE1   "), b"");
+    assert_eq!(find(b"", b"LANE1   "), no(1, 0));
+    assert_eq!(show(b"", b"LANE1   "), b"");
+}
+
+#[test]
+fn zero_and_letter_o_are_two_tags() {
+    let bytes = image(1, &[row(1, 2, b"LANE0   "), row(1, 0, b"LANEO   ")]);
+    assert_eq!(check(&bytes), Ok(2));
+    assert_eq!(find(&bytes, b"LANE0   "), Ok(1));
+    assert_eq!(find(&bytes, b"LANEO   "), Ok(2));
+}
+
+#[test]
+fn every_length_is_answered() {
+    for length in 0..=good().len() {
+        let _ = check(&good()[..length]);
+        for fill in [0, 1, 64, 255] {
+            let bytes = vec![fill; length];
+            assert!(check(&bytes).is_err());
+            assert_eq!(show(&bytes, &bytes), b"");
+        }
+    }
+}
