@@ -2,6 +2,7 @@
 //! document alone.
 //!
 //! - [`table`]: the table image, its checks, and the lookup of a tag.
+//! - [`machine`]: one call of one block.
 //!
 //! No function here allocates, and none panics, whatever the length or content
 //! of its input. All numbers are little-endian: "Values are little-endian,
@@ -9,4 +10,5 @@
 
 #![forbid(unsafe_code)]
 
+pub mod machine;
 pub mod table;

@@ -1,0 +1,13 @@
+pub mod Tests
+pub mod Pieces
+pub mod Shapes
+pub mod WorkLaws
+pub mod Passes
+pub mod CallLaws
+pub mod CallLoop
+pub mod SoundLaws
+pub mod EventLaws
+pub mod TimeLaws
+pub mod Locality
+pub mod BlockInvariant
+pub mod WorkedExamples

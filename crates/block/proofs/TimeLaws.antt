@@ -1,0 +1,82 @@
+-- What a call that stops in Executing says of time: elapsed is counted from the start, or from the record before, over the call clock and the
+-- clocks of the pieces used; it is not past the time-out in force; and the stored time-out is kept, or taken at the start. For histories.
+use Prim.Native.Nat.{ℕ, _≤_, _<_}
+use native.Mathlib.Omega.{arith}
+use native.Mathlib.Nat.{zero-add}
+use mathlib.Core.Bool.{true, false, cond}
+use mathlib.Core.Logic.{_≢_}
+use mathlib.Core.Path.{_≡_, _∙_, sym}
+use lib.ListN.{take}
+use borrow.Author.Tests.{ne-eqb, ltb-false}
+use Rattle.clock.specs.Clock.{start, tick, past, pastTimeOut}
+use Rattle.clock.proofs.ClockLaws.{tick-start}
+use Rattle.block.specs.Record.{Executing}
+use Rattle.block.specs.Entry.{entryFits}
+use Rattle.block.specs.Dormant.{timeOutTaken}
+use Rattle.block.specs.Executing.{timeOutOf}
+use Rattle.block.specs.Sound.{sound}
+use Rattle.block.specs.Rules.{pass}
+use Rattle.block.specs.Call.{Outcome, first, Call, stops, goes}
+use Rattle.block.specs.Turns.{hasStart}
+use Rattle.block.specs.History.{tickAll, clocksOf}
+use Rattle.block.specs.declared.record.Record.{Record}
+use Rattle.block.specs.declared.entry.Inputs.{Inputs}
+use Rattle.block.specs.declared.entry.Entry.{Entry}
+use Rattle.block.specs.declared.pass.Pass.{Pass}
+use Rattle.block.proofs.Tests.{decide, never}
+use Rattle.block.proofs.Shapes.{Shape, settled, settled-of}
+use Rattle.block.proofs.Passes.{rank, Goes, starts, leaves, returns, passed}
+use Rattle.block.proofs.EventLaws.{hasStart-append, Events, events}
+
+pub record Timing (k : ℕ) (e : Entry) (r : Record) (o : Outcome) : Type 0 where
+  -- without a start the record before was in Executing
+  pub came : hasStart (o .events) ≡ false → r .step ≡ Executing
+  pub timer : o .next .timer ≡ tickAll (cond (hasStart (o .events)) (start (e .clock)) (tick (r .timer) (e .clock))) (take (o .used) (clocksOf (e .pieces)))
+  pub timeout : o .next .timeout ≡ cond (hasStart (o .events)) (timeOutTaken k e) (r .timeout)
+  pub inTime : timeOutOf k e (o .next) ≢ 0 → o .next .timer .elapsed ≤ timeOutOf k e (o .next)
+
+not-past : (bound time : ℕ) → past bound time ≡ false → bound ≢ 0 → time ≤ bound
+unfolding past
+not-past bound time h n = ltb-false bound time (rw (ne-eqb bound 0 n) at h)
+
+rank-executing : (r : Record) → r .step ≡ Executing → rank r ≡ 3
+unfolding rank
+rank-executing r h = rw h
+
+module _ (k : ℕ) (i : Inputs) (e : Entry) (fits : e .clock < 4294967296) where
+  -- a pass that goes on, and the rest of the call after it
+  joined : (r : Record) (p : Pass) (o : Outcome) → Goes k e r p → Events k e (p .next) o → Timing k e (p .next) o → Timing k e r (first p o)
+  unfolding hasStart
+  joined r p o (starts u v t w n) x y =
+      let q : hasStart (o .events) ≡ false = x .quiet (omega arith) in
+      record {
+        came = λ h. never (sym (rw (hasStart-append, v)) ∙ h);
+        timer = rw (hasStart-append, v, u, zero-add) (rw (q, t, tick-start (e .clock) fits) at (y .timer));
+        timeout = rw (hasStart-append, v) (rw (q, w) at (y .timeout));
+        inTime = y .inTime;
+      }
+  joined r p o (leaves low) x y =
+      let q = y .came (x .quiet (omega arith)) in
+      let z : ⊥ = omega (arith, rank-executing (p .next) q) in
+      absurd z
+  joined r p o (returns u v n) x y =
+      decide (hasStart (o .events))
+      (λ h. record {
+        came = λ g. never (sym (rw v h) ∙ g);
+        timer = rw (v, u, zero-add, h) (rw h at (y .timer));
+        timeout = rw (v, h) (rw h at (y .timeout));
+        inTime = y .inTime;
+      })
+      (λ h. let z : ⊥ = omega (arith, rank-executing (p .next) (y .came h)) in absurd z)
+
+  timing : {r : Record} {o : Outcome} → Shape k (entryFits e ≡ true) r → Call k i e r o → o .next .step ≡ Executing → Timing k e r o
+  unfolding pastTimeOut
+  timing s (stops r h) x =
+      let p = passed k i e s .halts h x in
+      record { came = λ _. p .came; timer = rw (p .quiet) (p .timer); timeout = rw (p .quiet) (p .timeout); inTime = not-past _ _ (p .inTime) }
+  timing s (goes r o h c) x =
+      let p = passed k i e s in
+      joined r (pass k i e r) o (p .goes h) (events (p .after) c) (timing (p .after) c x)
+
+pub call-time : {k : ℕ} {i : Inputs} {e : Entry} {r : Record} {o : Outcome} → e .clock < 4294967296 → sound k r ≡ true → Call k i e r o → o .next .step ≡ Executing → Timing k e r o
+call-time {k} {i} {e} {r} {o} fits h c = timing k i e fits (settled (settled-of k (entryFits e ≡ true) r h)) c

@@ -1,0 +1,41 @@
+-- Document 01, "One call": "A call repeats passes until one stops".
+use Prim.Native.Nat.{ℕ, zero, suc, _+_}
+use mathlib.Core.Bool.{true, false, cond}
+use mathlib.Core.List.{List, _++_}
+use mathlib.Core.Path.{_≡_}
+use Rattle.block.specs.Event.{emitted}
+use Rattle.block.specs.Rules.{pass}
+use Rattle.block.specs.declared.record.Record.{Record}
+use Rattle.block.specs.declared.event.Event.{Event}
+use Rattle.block.specs.declared.entry.Inputs.{Inputs}
+use Rattle.block.specs.declared.entry.Entry.{Entry}
+use Rattle.block.specs.declared.pass.Pass.{Pass}
+
+-- what a call leaves: the record, its events in order, the pieces used, and the passes
+pub record Outcome : Type 0 where
+  pub next : Record
+  pub events : List Event
+  pub used : ℕ
+  pub passes : ℕ
+
+-- "Passes count each pass of a call, the stopping one included"
+abbrev pub lastly : Pass → Outcome
+lastly p = record { next = p .next; events = emitted (p .event); used = p .used; passes = 1 }
+
+-- a pass, and the rest of the call after it
+abbrev pub first : Pass → Outcome → Outcome
+first p o = record { next = o .next; events = emitted (p .event) ++ o .events; used = p .used + o .used; passes = suc (o .passes) }
+
+-- A call, with no bound on its passes: "the last is the first whose rule doesn't go on again".
+pub data Call (k : ℕ) (i : Inputs) (e : Entry) : Record → Outcome → Type 0 where
+  stops : (r : Record) → pass k i e r .again ≡ false → Call k i e r (lastly (pass k i e r))
+  goes : (r : Record) (o : Outcome) → pass k i e r .again ≡ true → Call k i e (pass k i e r .next) o → Call k i e r (first (pass k i e r) o)
+
+-- A call computed, with at most n passes before the last. From a sound record and an entry in form it is the Call for n = 5 (CallLaws).
+unfoldable pub callWithin : ℕ → ℕ → Inputs → Entry → Record → Outcome
+callWithin zero k i e r = lastly (pass k i e r)
+callWithin (suc n) k i e r =
+    cond (pass k i e r .again) (first (pass k i e r) (callWithin n k i e (pass k i e r .next))) (lastly (pass k i e r))
+
+unfoldable pub callOf : ℕ → Inputs → Entry → Record → Outcome
+callOf k i e r = callWithin 5 k i e r

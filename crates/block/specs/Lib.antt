@@ -1,0 +1,17 @@
+pub mod Record
+pub mod Event
+pub mod Entry
+pub mod Sound
+pub mod Pass
+pub mod Dormant
+pub mod Executing
+pub mod Ended
+pub mod Aborting
+pub mod Resetting
+pub mod Rules
+pub mod Call
+pub mod CallResult
+pub mod Turns
+pub mod History
+pub mod BlockInvariant
+pub mod WorkedExamples

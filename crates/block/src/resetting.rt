@@ -1,0 +1,21 @@
+// The rule of Resetting.
+use crate::entry::Entry;
+use crate::event::Event;
+use crate::pass::Pass;
+use crate::record::Record;
+ghost use mathlib.Core.Path.{_≡_};
+ghost use Rattle.block.specs.Resetting.{resetting};
+
+pub fn resetting(e: Entry, r: Record) -> Pass
+    ensures { λ p. ⌜ p ≡ resetting e r ⌝ }
+{
+    if e.reset_reply == Entry::COMPLETE {
+        return Pass {
+            next: Record::fresh(),
+            event: Event::none(),
+            used: 0,
+            again: r.request,
+        };
+    }
+    Pass::stop(0, r)
+}

@@ -1,0 +1,38 @@
+-- What the counted time means, before and after the counter's turn, and the laws of `tick` that the block machine and its history use.
+use Prim.Native.Nat.{ℕ, _+_, _-_, _<_, _≤_}
+use mathlib.Core.Bool.{true, false}
+use mathlib.Core.Path.{_≡_, refl}
+use native.Mathlib.Omega.{arith}
+use native.Mathlib.Nat.{mod-eq-of-lt}
+use Rattle.clock.specs.Clock.{since, start, tick, past}
+use Rattle.clock.specs.declared.Timer.{Timer}
+
+-- before the counter's turn: the plain difference
+pub since-before : (from to : ℕ) → from ≤ to → to < 4294967296 → since from to ≡ to - from
+unfolding since
+since-before from to h l = omega arith
+
+-- after the counter's turn: the difference and one whole count
+pub since-after : (from to : ℕ) → to < from → from < 4294967296 → since from to ≡ to + 4294967296 - from
+unfolding since
+since-after from to h l = omega arith
+
+-- no time passes from a reading to itself
+pub since-same : (reading : ℕ) → reading < 4294967296 → since reading reading ≡ 0
+unfolding since
+since-same reading h = omega arith
+
+-- elapsed is held
+pub tick-held : (t : Timer) (reading : ℕ) → tick t reading .elapsed ≤ 4294967296
+unfolding tick
+tick-held t reading = omega arith
+
+-- the call clock, read again in the call of the start, adds nothing
+pub tick-start : (reading : ℕ) → reading < 4294967296 → tick (start reading) reading ≡ start reading
+unfolding tick
+tick-start reading h = rw (since-same reading h)
+
+-- 0 is no bound
+pub past-none : (time : ℕ) → past 0 time ≡ false
+unfolding past
+past-none time = refl

@@ -1,0 +1,29 @@
+-- Document 01, "One call": how time is counted from clock readings, numbers below 4,294,967,296.
+use Prim.Native.Nat.{ℕ, _+_, _-_, _%_, min}
+use mathlib.Core.Bool.{Bool, not, _&&_}
+use lib.Dec.{ltb, eqb}
+use Rattle.clock.specs.declared.Timer.{Timer}
+
+-- "Time from one reading to the next is their difference modulo 4,294,967,296."
+unfoldable pub since : ℕ → ℕ → ℕ
+since from to = (to + 4294967296 - from) % 4294967296
+
+-- at a start: "Last reading = call clock, elapsed 0"
+abbrev pub start : ℕ → Timer
+start reading = record { last = reading; elapsed = 0 }
+
+-- "Elapsed adds these and is held at 4,294,967,296; each reading added becomes the last reading."
+unfoldable pub tick : Timer → ℕ → Timer
+tick t reading = record { last = reading; elapsed = min (t .elapsed + since (t .last) reading) 4294967296 }
+
+-- more than a bound; "limit or time-out 0 is none"
+unfoldable pub past : ℕ → ℕ → Bool
+past bound time = not (eqb bound 0) && ltb bound time
+
+-- "past the time limit (piece clock after call clock by more than the limit)"
+unfoldable pub pastLimit : ℕ → ℕ → ℕ → Bool
+pastLimit limit call reading = past limit (since call reading)
+
+-- "elapsed greater than the time-out"
+unfoldable pub pastTimeOut : ℕ → Timer → Bool
+pastTimeOut timeout t = past timeout (t .elapsed)
