@@ -3,7 +3,11 @@ ghost use mathlib.Core.Path.{_≡_};
 ghost use Rattle.table.specs.Place.{placeNumber, refusal};
 ghost use Rattle.table.specs.Check.{checkOf, checkedAnswer};
 ghost use Rattle.table.specs.Lookup.{findOf, foundAnswer};
+ghost use Rattle.engine.specs.Fresh.{freshOf, freshAnswer};
+ghost use Rattle.engine.specs.Scan.{scanOf, scanAnswer};
 ghost use Rattle.lane.specs.Packed.{packed};
+use engine::answer::Freshened;
+use engine::answer::Scanned;
 use table::check::Checked;
 use table::lookup::Found;
 use table::place::Place;
@@ -33,12 +37,56 @@ fn pack_found(answer: Found) -> u64
     }
 }
 
+fn pack_freshened(answer: Freshened) -> u64
+    ensures { λ r. ⌜ r ≡ packed (freshAnswer answer) ⌝ }
+{
+    match answer {
+        Freshened::Blocks(blocks) => blocks as u64,
+        Freshened::Refused(number, place) => pack_refusal(number, place),
+    }
+}
+
+fn pack_scanned(answer: Scanned) -> u64
+    ensures { λ r. ⌜ r ≡ packed (scanAnswer answer) ⌝ }
+{
+    match answer {
+        Scanned::Events(events) => events as u64,
+        Scanned::Refused(number, place) => pack_refusal(number, place),
+    }
+}
+
 // Check a table: the number of its blocks, or the first check that fails.
 #[no_mangle]
 pub extern "C" fn lane_check(image: &[u8]) -> u64
     ensures { λ r. ⌜ r ≡ packed (checkedAnswer (checkOf (now (image .entry)))) ⌝ }
 {
     pack_checked(table::check::check(image))
+}
+
+// Make the lent state fresh: the number of blocks, or the first check that fails, which leaves the state untouched.
+#[no_mangle]
+pub extern "C" fn lane_fresh(image: &[u8], state: &mut [u8]) -> u64
+    ensures answer { λ r. ⌜ r ≡ packed (freshAnswer (freshOf (now (image .entry)) (now (state .entry)) .answer)) ⌝ }
+    ensures state { λ _. ⌜ now (state .exit) ≡ freshOf (now (image .entry)) (now (state .entry)) .state ⌝ }
+{
+    pack_freshened(engine::fresh::fresh(image, state))
+}
+
+// Run one scan: the number of events written, or the first check that fails, which leaves every lent buffer untouched.
+#[no_mangle]
+pub extern "C" fn lane_scan(
+    image: &[u8],
+    state: &mut [u8],
+    frame: &[u8],
+    report: &mut [u8],
+    journal: &mut [u8],
+) -> u64
+    ensures answer { λ r. ⌜ r ≡ packed (scanAnswer (scanOf (now (image .entry)) (now (state .entry)) (now (frame .entry)) (now (report .entry)) (now (journal .entry)) .answer)) ⌝ }
+    ensures state { λ _. ⌜ now (state .exit) ≡ scanOf (now (image .entry)) (now (state .entry)) (now (frame .entry)) (now (report .entry)) (now (journal .entry)) .state ⌝ }
+    ensures report { λ _. ⌜ now (report .exit) ≡ scanOf (now (image .entry)) (now (state .entry)) (now (frame .entry)) (now (report .entry)) (now (journal .entry)) .report ⌝ }
+    ensures journal { λ _. ⌜ now (journal .exit) ≡ scanOf (now (image .entry)) (now (state .entry)) (now (frame .entry)) (now (report .entry)) (now (journal .entry)) .journal ⌝ }
+{
+    pack_scanned(engine::scan::scan(image, state, frame, report, journal))
 }
 
 // Find a tag: its position, or the first check that fails.

@@ -1,18 +1,19 @@
 //! The table check and the lookup at 1, 8 and 64 blocks, all wired.
 
+use crate::baseline;
 use crate::timing::{head, line, nanoseconds};
 use lane::{ffi, image, Block, Engine, Flag, Kind, Tag, Wire};
 use reference::table;
 use std::hint::black_box;
 
 /// Numbers of blocks that are measured.
-const SIZES: [usize; 3] = [1, 8, 64];
+pub const SIZES: [usize; 3] = [1, 8, 64];
 
-/// What is measured beside the engine.
-const OTHERS: [&str; 1] = ["reference"];
+/// The others that are measured beside the engine.
+pub const OTHERS: [&str; 2] = ["reference", "plain C"];
 
 /// The tag of a position.
-fn tag(position: usize) -> Tag {
+pub fn tag(position: usize) -> Tag {
     Tag::new(&format!("LANE{position}")).expect("a tag in form")
 }
 
@@ -32,7 +33,7 @@ fn wired(blocks: usize) -> Vec<u8> {
 
 /// Measures and prints.
 pub fn run() {
-    println!("Nanoseconds a call (median), the engine's ratio to the reference, its growth.");
+    println!("Nanoseconds a call (median), the engine's ratio to the others, its growth.");
     println!("Table: every input has a wire. Nothing is written, so no buffer is cleared.");
     head(&OTHERS);
     let mut first = [None; 3];
@@ -41,13 +42,16 @@ pub fn run() {
         Engine::new(&table).expect("an accepted table");
         let image = || black_box(&table[..]);
         let (last, absent) = (tag(blocks), tag(99));
-        let check = nanoseconds([&mut || _ = black_box(ffi::check(image())), &mut || {
-            _ = black_box(table::check(image()))
-        }]);
+        let check = nanoseconds([
+            &mut || _ = black_box(ffi::check(image())),
+            &mut || _ = black_box(table::check(image())),
+            &mut || _ = black_box(baseline::check(image())),
+        ]);
         let [found, absent] = [last, absent].map(|tag| {
             nanoseconds([
                 &mut || _ = black_box(ffi::find(image(), tag.as_ref())),
                 &mut || _ = black_box(table::find(image(), tag.as_ref())),
+                &mut || _ = black_box(baseline::find(image(), tag.as_ref())),
             ])
         });
         let names = ["check", "find, the last", "find, absent"];

@@ -4,12 +4,20 @@
 //! - [`text`]: calls and answers as lines of text, which the `replay` program runs again.
 //! - [`check`]: one call of each implementation, compared.
 //! - [`tables`]: table images, valid and damaged.
+//! - [`records`]: state records and frame entries, in form and out of it.
+//! - [`scans`]: lists of scans, with damage to what a scan is given.
+//! - [`scan_check`]: one fresh state or scan by each implementation, compared.
+//! - [`seen`]: what the accepted scans did.
 //! - [`tally`]: counts of what was seen.
 
 #![forbid(unsafe_code)]
 
 pub mod check;
+pub mod records;
 pub mod rng;
+pub mod scan_check;
+pub mod scans;
+pub mod seen;
 pub mod tables;
 pub mod tally;
 pub mod text;

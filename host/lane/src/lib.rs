@@ -2,8 +2,11 @@
 //!
 //! The engine is an archive of C functions over byte slices. This crate gives its buffers types:
 //!
-//! - [`Engine`] holds a table that the engine has accepted, and looks up tags.
+//! - [`Engine`] holds a table that the engine has accepted, looks up tags, makes fresh states and runs
+//!   scans.
 //! - [`Block`], [`Kind`], [`Tag`], [`Wire`] and [`image`] write a table.
+//! - [`State`], [`Frame`], [`Report`] and [`Journal`] are the buffers of a scan; [`Record`], [`Entry`],
+//!   [`ReportEntry`] and [`Event`] are what they hold.
 //! - [`Refusal`] says which check turned a call back, and where.
 //! - [`ffi`] has the entry points over plain bytes.
 //!
@@ -28,12 +31,19 @@
 #![deny(unsafe_code)]
 #![warn(missing_docs)]
 
+mod buffers;
 mod engine;
 #[allow(unsafe_code)]
 pub mod ffi;
+mod layout;
 mod refusal;
+mod scan;
 mod table;
 
+pub use buffers::{Frame, Journal, Report, State};
 pub use engine::Engine;
+pub use layout::{Entry, Event, EventKind, Flags, Piece, Pieces, Record, Reply, ReportEntry, Step};
+pub use layout::{ENTRY_BYTES, EVENT_BYTES, MAX_PIECES, RECORD_BYTES, REPORT_BYTES};
 pub use refusal::{Place, Refusal};
+pub use scan::Outcome;
 pub use table::{image, Block, Flag, Kind, Tag, Wire, HEADER_BYTES, MAX_BLOCKS, SLOT_BYTES};

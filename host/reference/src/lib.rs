@@ -3,6 +3,7 @@
 //!
 //! - [`table`]: the table image, its checks, and the lookup of a tag.
 //! - [`machine`]: one call of one block.
+//! - [`scan`]: a fresh state, and one scan over all blocks of a table.
 //!
 //! No function here allocates, and none panics, whatever the length or content
 //! of its input. All numbers are little-endian: "Values are little-endian,
@@ -11,4 +12,5 @@
 #![forbid(unsafe_code)]
 
 pub mod machine;
+pub mod scan;
 pub mod table;

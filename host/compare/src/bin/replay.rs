@@ -2,6 +2,8 @@
 //!
 //!     cargo run -p compare --bin replay -- check xIMAGE
 //!     cargo run -p compare --bin replay -- find xIMAGE xTAG
+//!     cargo run -p compare --bin replay -- fresh xIMAGE xSTATE
+//!     cargo run -p compare --bin replay -- scan xIMAGE xSTATE xFRAME xREPORT xJOURNAL
 
 use std::env;
 use std::process::ExitCode;
@@ -9,7 +11,7 @@ use std::process::ExitCode;
 fn main() -> ExitCode {
     let words: Vec<String> = env::args().skip(1).collect();
     let words: Vec<&str> = words.iter().map(String::as_str).collect();
-    match compare::check::run(&words).map(compare::text::answer) {
+    match compare::scan_check::run(&words) {
         Ok(text) => {
             println!("both give {text}");
             ExitCode::SUCCESS

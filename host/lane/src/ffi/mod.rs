@@ -2,8 +2,10 @@
 //!
 //! Every function takes slices of any length and content, and answers a value or a refusal.
 
+mod scan;
 mod table;
 
+pub use scan::{fresh, scan};
 pub use table::{check, find};
 
 use crate::Refusal;

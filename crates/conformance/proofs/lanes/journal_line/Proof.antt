@@ -1,0 +1,88 @@
+-- `lanes::journal_line` is safe and ends: each event lies within the journal.
+use Prim.Native.Nat.{_*_, _-_, _≤_}
+use lib.ListN.{length}
+use native.Mathlib.Omega.{arith}
+use borrow.Author.Needs.{needs}
+use Rattle.conformance.proofs.lanes.journal_line.Statement.{statement}
+use Rattle.conformance.proofs.lanes.journal_line.Tie as tie
+
+abbrev Inv-loop : tie.InvT-loop
+Inv-loop journal count n i₀ t7 t8 i = (i ≤ n) × (8 * n ≤ length journal)
+
+abbrev μ-loop : tie.MeasureT-loop
+μ-loop journal count n i₀ t7 t8 i = n - i
+
+slice-aggregate-column : tie.Need-slice-aggregate-column Inv-loop μ-loop
+slice-aggregate-column c = search needs
+
+column-requires : tie.Need-column-requires Inv-loop μ-loop
+column-requires c κs = search needs
+
+readable-requires : tie.Need-readable-requires Inv-loop μ-loop
+readable-requires c κs = search needs
+
+loop-holds : tie.Need-loop-holds Inv-loop μ-loop
+loop-holds c = omega arith
+
+slice-aggregate-print : tie.Need-slice-aggregate-print Inv-loop μ-loop
+slice-aggregate-print c = search needs
+
+print-requires : tie.Need-print-requires Inv-loop μ-loop
+print-requires c κs = search needs
+
+mul-posted-at : tie.Need-mul-posted-at Inv-loop μ-loop
+mul-posted-at c = omega arith
+
+posted-at-requires : tie.Need-posted-at-requires Inv-loop μ-loop
+posted-at-requires c κs = search needs
+
+cast-print-tag : tie.Need-cast-print-tag Inv-loop μ-loop
+cast-print-tag c = omega arith
+
+print-tag-requires : tie.Need-print-tag-requires Inv-loop μ-loop
+print-tag-requires c κs = search needs
+
+event-requires : tie.Need-event-requires Inv-loop μ-loop
+event-requires c κs = search needs
+
+add-i : tie.Need-add-i Inv-loop μ-loop
+add-i c = omega arith
+
+loop-less : tie.Need-loop-less Inv-loop μ-loop
+loop-less c = omega arith
+
+loop-again : tie.Need-loop-again Inv-loop μ-loop
+loop-again c = omega arith
+
+slice-aggregate-print-2 : tie.Need-slice-aggregate-print-2 Inv-loop μ-loop
+slice-aggregate-print-2 c = search needs
+
+print-requires-2 : tie.Need-print-requires-2 Inv-loop μ-loop
+print-requires-2 c κs = search needs
+
+returns : tie.Need-returns Inv-loop μ-loop
+returns c = search needs
+
+pub journal-line-spec : {M : Type 1} → statement M
+journal-line-spec =
+    tie.close
+    (tie.spec
+    Inv-loop
+    μ-loop
+    slice-aggregate-column
+    column-requires
+    readable-requires
+    loop-holds
+    slice-aggregate-print
+    print-requires
+    mul-posted-at
+    posted-at-requires
+    cast-print-tag
+    print-tag-requires
+    event-requires
+    add-i
+    loop-less
+    loop-again
+    slice-aggregate-print-2
+    print-requires-2
+    returns)

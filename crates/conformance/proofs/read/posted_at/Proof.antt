@@ -1,0 +1,48 @@
+-- `read::posted_at` meets its contract, field by field.
+use Prim.Native.Nat.{_+_}
+use Rattle.layout.specs.Buffer.{byteAt}
+use borrow.Author.Needs.{needs}
+use Rattle.conformance.proofs.read.posted_at.Statement.{statement}
+use Rattle.conformance.proofs.read.posted_at.Tie as tie
+
+shared-slice-read-t5 : tie.Need-shared-slice-read-t5
+shared-slice-read-t5 c = search needs
+
+add-u16-at : tie.Need-add-u16-at
+add-u16-at c = search needs
+
+u16-at-requires : tie.Need-u16-at-requires
+u16-at-requires c κs = search needs
+
+add-u32-at : tie.Need-add-u32-at
+add-u32-at c = search needs
+
+u32-at-requires : tie.Need-u32-at-requires
+u32-at-requires c κs = search needs
+
+add-t7 : tie.Need-add-t7
+add-t7 c = search needs
+
+shared-slice-read-t5-2 : tie.Need-shared-slice-read-t5-2
+shared-slice-read-t5-2 c = search needs
+
+returns : tie.Need-returns
+returns c =
+    let a = c .before .before .before .before .before .args in
+    λ i. record {
+      position = byteAt (a .s .now) (a .at + 1);
+      event = record { kind = byteAt (a .s .now) (a .at); code = c .before .before .u16-at .ensures i; job = c .before .u32-at .ensures i };
+    }
+
+pub posted-at-spec : {M : Type 1} → statement M
+posted-at-spec =
+    tie.close
+    (tie.spec
+    shared-slice-read-t5
+    add-u16-at
+    u16-at-requires
+    add-u32-at
+    u32-at-requires
+    add-t7
+    shared-slice-read-t5-2
+    returns)

@@ -1,0 +1,27 @@
+-- Document 01, "Report and journal": a report entry and a journal event, read from bytes.
+use Prim.Native.Nat.{ℕ, _+_}
+use mathlib.Core.List.{List}
+use Rattle.words.specs.Word.{numberAt}
+use Rattle.layout.specs.Buffer.{byteAt, jobWidth}
+use Rattle.conformance.specs.declared.read.Report.{Report}
+use Rattle.conformance.specs.declared.read.Posted.{Posted}
+
+-- "flags, pieces used, passes, step, code (2), zero (2), job (4)"
+abbrev pub reportAt : List ℕ → ℕ → Report
+reportAt s at =
+    record {
+      flags = byteAt s at;
+      used = byteAt s (at + 1);
+      passes = byteAt s (at + 2);
+      step = byteAt s (at + 3);
+      code = numberAt 2 s (at + 4);
+      job = numberAt jobWidth s (at + 8);
+    }
+
+-- "kind (1 start, 2 done, 3 failed, 4 aborted, 5 withdrawn), position, code (2; 0 unless failed), job (4)"
+abbrev pub postedAt : List ℕ → ℕ → Posted
+postedAt s at =
+    record {
+      position = byteAt s (at + 1);
+      event = record { kind = byteAt s at; code = numberAt 2 s (at + 2); job = numberAt jobWidth s (at + 4) };
+    }

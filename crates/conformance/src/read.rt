@@ -1,0 +1,64 @@
+// Report entries and journal events, read from bytes.
+use block::event::Event;
+ghost use mathlib.Core.Path.{_≡_};
+ghost use Prim.Native.Nat.{_+_, _*_, _≤_};
+ghost use lib.ListN.{length};
+ghost use Rattle.conformance.specs.Read.{reportAt, postedAt};
+
+// What a call leaves, as its report entry says it.
+pub struct Report {
+    pub flags: u8,
+    pub used: u8,
+    pub passes: u8,
+    pub step: u8,
+    pub code: u16,
+    pub job: u32,
+}
+
+// An event with the position of its block.
+pub struct Posted {
+    pub position: u8,
+    pub event: Event,
+}
+
+// The report entry from the place `at` on.
+pub fn report_at(s: &[u8], at: usize) -> Report
+    requires { ⌜ at + 12 ≤ length (now s) ⌝ }
+    ensures { λ r. ⌜ r ≡ reportAt (now (s .entry)) at ⌝ }
+{
+    Report {
+        flags: s[at],
+        used: s[at + 1],
+        passes: s[at + 2],
+        step: s[at + 3],
+        code: words::u16_at(s, at + 4),
+        job: words::u32_at(s, at + 8),
+    }
+}
+
+// The event from the place `at` on.
+pub fn posted_at(s: &[u8], at: usize) -> Posted
+    requires { ⌜ at + 8 ≤ length (now s) ⌝ }
+    ensures { λ r. ⌜ r ≡ postedAt (now (s .entry)) at ⌝ }
+{
+    let event = Event {
+        kind: s[at],
+        code: words::u16_at(s, at + 2),
+        job: words::u32_at(s, at + 4),
+    };
+    Posted {
+        position: s[at + 1],
+        event,
+    }
+}
+
+// How many events of a journal may be read: what the scan answered, within the journal's bytes.
+pub fn readable(count: usize, journal: &[u8]) -> usize
+    ensures { λ r. ⌜ 8 * r ≤ length (now (journal .entry)) ⌝ }
+{
+    let room = journal.len() / 8;
+    if count < room {
+        return count;
+    }
+    room
+}

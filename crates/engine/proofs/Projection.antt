@@ -1,0 +1,212 @@
+-- An accepted scan over a table as a list of blocks, read off its bytes: what is seen of each block is its call by the machine. For the run promise.
+use Prim.Native.Nat.{ℕ, zero, suc, _+_, _*_, _≤_, _<_}
+use native.Mathlib.Decide.{ℕ-discrete, decLt}
+use native.Mathlib.Omega.{arith}
+use mathlib.Core.Bool.{Bool, true, false, cond}
+use mathlib.Core.List.{List, [], _++_, append-nil}
+use mathlib.Core.Path.{_≡_, refl, ap, sym, _∙_, subst}
+use lib.Dec.{ltb}
+use lib.ListN.{length}
+use borrow.Author.Tests.{ltb-true, ltb-false}
+use Rattle.table.specs.Blocks.{Block, blockAt}
+use Rattle.layout.specs.Buffer.{recordLength, entryLength, reportLength, eventLength, part, put}
+use Rattle.layout.specs.RecordLayout.{encodeRecord, decodeRecord, recordForm, RecordFits}
+use Rattle.layout.specs.ReportLayout.{encodeReport, reportedPieces, reportedPasses}
+use Rattle.layout.specs.EventLayout.{Posted, encodeEvents, decodeEvents, posted, eventsAt}
+use Rattle.layout.proofs.BufferLaws.{part-bytes}
+use Rattle.layout.proofs.RecordLaws.{encode-length, decode-encode, encode-form}
+use Rattle.layout.proofs.EntryLaws.{decode-fits}
+use Rattle.layout.proofs.ReportLaws.{report-length, reported-pieces, reported-passes}
+use Rattle.layout.proofs.EventLaws.{at-append, at-own, at-other}
+use Rattle.block.specs.Call.{Outcome, callOf}
+use Rattle.block.specs.History.{Seen}
+use Rattle.block.specs.BlockInvariant.{seenCall}
+use Rattle.block.specs.declared.entry.Inputs.{Inputs}
+use Rattle.engine.specs.Inputs.{flagsIn, inputsOf}
+use Rattle.engine.specs.Serve.{Buffers, recordIn, entryIn, callIn, served, servedTo}
+use Rattle.engine.specs.Scans.{Bytes, flagsSeen}
+use Rattle.engine.proofs.FitsLaws.{OutcomeFits, call-fits}
+use Rattle.engine.proofs.GridLaws.{grid-length, grid-later, grid-earlier}
+use Rattle.engine.proofs.JournalLaws.{decode-after, room-after}
+
+module _ (blocks : List Block) (frame state report journal : List ℕ) where
+  -- the buffers after the first n calls, and the call of block i
+  abbrev pub buffersAt : ℕ → Buffers
+  buffersAt n = servedTo blocks frame n (record { state = state; report = report; journal = journal; events = 0 })
+
+  abbrev pub outcomeAt : ℕ → Outcome
+  outcomeAt i = callIn (blockAt blocks i) i frame (buffersAt i .state)
+
+  -- the events so far
+  abbrev pub eventsTo : ℕ → List Posted
+  eventsTo n = decodeEvents (buffersAt n .events) (buffersAt n .journal)
+
+  abbrev pub stateTo : ℕ → List ℕ
+  stateTo n = buffersAt n .state
+
+  -- the inputs of the call of block i
+  abbrev pub inputsAt : ℕ → Inputs
+  inputsAt i = inputsOf (blockAt blocks i) (flagsIn (stateTo i)) (entryIn frame i .inputs)
+
+  abbrev reportTo : ℕ → List ℕ
+  reportTo n = buffersAt n .report
+
+  abbrev recordBytes : ℕ → List ℕ
+  recordBytes i = encodeRecord (outcomeAt i .next)
+
+  abbrev reportBytes : ℕ → List ℕ
+  reportBytes i = encodeReport (outcomeAt i)
+
+  -- one call more
+  state-next : (i : ℕ) → stateTo (suc i) ≡ put (recordLength * i) (recordBytes i) (stateTo i)
+  unfolding servedTo served
+  state-next i = refl
+
+  report-next : (i : ℕ) → reportTo (suc i) ≡ put (reportLength * i) (reportBytes i) (reportTo i)
+  unfolding servedTo served
+  report-next i = refl
+
+  journal-next : (i : ℕ) → buffersAt (suc i) .journal
+      ≡ put (eventLength * buffersAt i .events) (encodeEvents (suc i) (outcomeAt i .events)) (buffersAt i .journal)
+  unfolding servedTo served
+  journal-next i = refl
+
+  count-next : (i : ℕ) → buffersAt (suc i) .events ≡ buffersAt i .events + length (outcomeAt i .events)
+  unfolding servedTo served
+  count-next i = refl
+
+  -- the journal has room for the events so far
+  journal-room : (n : ℕ) → eventLength * buffersAt n .events ≤ length (buffersAt n .journal)
+  unfolding servedTo
+  journal-room zero = omega arith
+  journal-room (suc i) =
+      rw (count-next i, journal-next i)
+      (room-after (buffersAt i .events) (suc i) (outcomeAt i .events) (buffersAt i .journal) (journal-room i))
+
+  module _ (sized : length state ≡ recordLength * length blocks) where
+    pub state-length : (n : ℕ) → n ≤ length blocks → length (stateTo n) ≡ length state
+    unfolding servedTo
+    state-length n h = grid-length recordLength recordBytes stateTo (λ i. encode-length (outcomeAt i .next)) state-next n (omega arith)
+
+    -- a record is the one from before until its block is called, then the one that the call left
+    pub state-later : (n j : ℕ) → n ≤ length blocks → n ≤ j → part recordLength j (stateTo n) ≡ part recordLength j state
+    unfolding servedTo
+    state-later n j h l = grid-later recordLength recordBytes stateTo (λ i. encode-length (outcomeAt i .next)) state-next n j (omega arith) l
+
+    pub state-earlier : (n j : ℕ) → n ≤ length blocks → j < n → part recordLength j (stateTo n) ≡ recordBytes j
+    unfolding servedTo
+    state-earlier n j h l = grid-earlier recordLength recordBytes stateTo (λ i. encode-length (outcomeAt i .next)) state-next n j (omega arith) l
+
+    -- as many events as the calls have, at most two each
+    pub events-few
+        : ((i : ℕ) → i < length blocks → length (callOf (blockAt blocks i .kind) (inputsAt i) (entryIn frame i) (recordIn state i) .events) ≤ 2)
+        → (n : ℕ) → n ≤ length blocks → buffersAt n .events ≤ 2 * n
+    unfolding servedTo served callIn
+    events-few two zero l = omega arith
+    events-few two (suc i) l =
+        let e = ap decodeRecord (state-later i i (omega arith) (omega arith)) in
+        omega (arith, events-few two i (omega arith), rw (← e) at (two i l))
+
+  -- the report and the frame of an accepted scan too; each record fits its bytes
+  module _ (sized : length state ≡ recordLength * length blocks) (reported : length report ≡ reportLength * length blocks) (framed : Bytes frame)
+      (fit : (j : ℕ) → RecordFits (recordIn state j)) where
+    report-earlier : (n j : ℕ) → n ≤ length blocks → j < n → part reportLength j (reportTo n) ≡ reportBytes j
+    unfolding servedTo
+    report-earlier n j h l = grid-earlier reportLength reportBytes reportTo (λ i. report-length (outcomeAt i)) report-next n j (omega arith) l
+
+    pub outcome-fits : (i : ℕ) → i < length blocks → OutcomeFits (outcomeAt i)
+    unfolding callIn
+    outcome-fits i l =
+        call-fits (blockAt blocks i .kind) (inputsAt i) (entryIn frame i)
+        (decode-fits (part entryLength i frame) (part-bytes entryLength i frame framed))
+        (recordIn (stateTo i) i) (rw (state-later sized i i (omega arith) (omega arith)) (fit i))
+
+    -- a flag is this scan's for an earlier block, and the last scan's for a later one or the block itself
+    flags-are : (k : ℕ) → k < length blocks → (i : ℕ) → flagsIn (stateTo k) i ≡ flagsSeen k state (stateTo (length blocks)) i
+    unfolding flagsSeen
+    flags-are k l i = go (ltb i k) refl
+      where
+        go : (b : Bool) → ltb i k ≡ b → flagsIn (stateTo k) i ≡ flagsIn (cond b (stateTo (length blocks)) state) i
+        go true e =
+            let h : i < k = ltb-true i k e in
+            ap (λ (p : List ℕ). decodeRecord p .flags)
+            (state-earlier sized k i (omega arith) h ∙ sym (state-earlier sized (length blocks) i (omega arith) (omega arith)))
+        go false e = ap (λ (p : List ℕ). decodeRecord p .flags) (state-later sized k i (omega arith) (ltb-false i k e))
+
+    module _ (k : ℕ) (l : k < length blocks) where
+      -- the inputs, as they are seen in the bytes
+      abbrev pub inputsSeen : Inputs
+      inputsSeen = inputsOf (blockAt blocks k) (flagsSeen k state (stateTo (length blocks))) (entryIn frame k .inputs)
+
+      outcome-is : outcomeAt k ≡ callOf (blockAt blocks k .kind) inputsSeen (entryIn frame k) (recordIn state k)
+      unfolding callIn
+      outcome-is = λ i.
+          callOf (blockAt blocks k .kind) (inputsOf (blockAt blocks k) (λ j. flags-are k l j i) (entryIn frame k .inputs)) (entryIn frame k)
+          (decodeRecord (state-later sized k k (omega arith) (omega arith) i))
+
+    -- the events of each call come after those of the calls before it
+    events-next : (i : ℕ) → i < length blocks → eventsTo (suc i) ≡ eventsTo i ++ posted (suc i) (outcomeAt i .events)
+    events-next i l =
+        rw (count-next i, journal-next i)
+        (decode-after (buffersAt i .events) (suc i) (outcomeAt i .events) (buffersAt i .journal) (journal-room i) (outcome-fits i l .events))
+
+    -- so those with a block's position are those of its call
+    pub events-none : (k n : ℕ) → n ≤ length blocks → n ≤ k → eventsAt (suc k) (eventsTo n) ≡ []
+    unfolding servedTo decodeEvents eventsAt
+    events-none k zero h l = refl
+    events-none k (suc n) h l =
+        rw (events-next n h, at-append, events-none k n (omega arith) (omega arith), at-other (suc k) (suc n) (outcomeAt n .events) (omega arith))
+
+    events-one : (k n : ℕ) → n ≤ length blocks → k < n → eventsAt (suc k) (eventsTo n) ≡ outcomeAt k .events
+    events-one k zero h l = absurd (omega arith)
+    events-one k (suc n) h l = go (ℕ-discrete k n) (λ m. events-one k n (omega arith) m)
+      where
+        go : Dec (k ≡ n) → (k < n → eventsAt (suc k) (eventsTo n) ≡ outcomeAt k .events) → eventsAt (suc k) (eventsTo (suc n)) ≡ outcomeAt k .events
+        go (yes e) ih = rw (e, events-next n h, at-append, events-none n n (omega arith) (omega arith), at-own)
+        go (no m) ih = rw (events-next n h, at-append, at-other (suc k) (suc n) (outcomeAt n .events) (λ e. m (omega arith)), append-nil) (ih (omega arith))
+
+    record-is : (k : ℕ) → k < length blocks → recordIn (stateTo (length blocks)) k ≡ outcomeAt k .next
+    record-is k l =
+        ap decodeRecord (state-earlier sized (length blocks) k (omega arith) l) ∙ decode-encode (outcomeAt k .next) (outcome-fits k l .next)
+
+    -- what is seen of a block in the bytes is a call of the machine
+    abbrev pub seenIn : ℕ → Seen
+    seenIn k =
+        record {
+          before = recordIn state k;
+          inputs = inputsOf (blockAt blocks k) (flagsSeen k state (stateTo (length blocks))) (entryIn frame k .inputs);
+          entry = entryIn frame k;
+          passes = reportedPasses (part reportLength k (reportTo (length blocks)));
+          used = reportedPieces (part reportLength k (reportTo (length blocks)));
+          events = eventsAt (suc k) (eventsTo (length blocks));
+          after = recordIn (stateTo (length blocks)) k;
+        }
+
+    pub seen-is : (k : ℕ) → (l : k < length blocks) → seenIn k ≡ seenCall (blockAt blocks k .kind) (inputsSeen k l) (entryIn frame k) (recordIn state k)
+    seen-is k l =
+        let p = report-earlier (length blocks) k (omega arith) l in
+        let o = outcome-is k l in
+        let passes = ap reportedPasses p ∙ reported-passes (outcomeAt k) ∙ ap (λ (c : Outcome). c .passes) o in
+        let used = ap reportedPieces p ∙ reported-pieces (outcomeAt k) ∙ ap (λ (c : Outcome). c .used) o in
+        let events = events-one k (length blocks) (omega arith) l ∙ ap (λ (c : Outcome). c .events) o in
+        let after = record-is k l ∙ ap (λ (c : Outcome). c .next) o in
+        λ i. record {
+          before = recordIn state k;
+          inputs = inputsSeen k l;
+          entry = entryIn frame k;
+          passes = passes i;
+          used = used i;
+          events = events i;
+          after = after i;
+        }
+
+    -- the records that the scan leaves fit their bytes too
+    pub still-fits : (j : ℕ) → RecordFits (recordIn (stateTo (length blocks)) j)
+    still-fits j = go (decLt j (length blocks))
+      where
+        go : Dec (j < length blocks) → RecordFits (recordIn (stateTo (length blocks)) j)
+        go (yes l) = subst RecordFits (sym (record-is j l)) (outcome-fits j l .next)
+        go (no m) = subst RecordFits (sym (ap decodeRecord (state-later sized (length blocks) j (omega arith) (omega arith)))) (fit j)
+
+    pub still-form : (j : ℕ) → j < length blocks → recordForm (part recordLength j (stateTo (length blocks))) ≡ true
+    still-form j l = ap recordForm (state-earlier sized (length blocks) j (omega arith) l) ∙ encode-form (outcomeAt j .next)

@@ -1,0 +1,49 @@
+-- The list of scans of specs/RunExamples.antt, computed from the bytes of the table, the lent buffer and the frames.
+use mathlib.Core.Path.{refl}
+use Rattle.kind.specs.Kind.{isKind, isEdge, hasAbort, hasTimeLimit, hasTimeOut, isContinuous}
+use Rattle.clock.specs.Clock.{since, tick, past, pastLimit, pastTimeOut}
+use Rattle.words.specs.Word.{number, bytes}
+use Rattle.table.specs.Blocks.{blocksIn, blockIn}
+use Rattle.table.specs.Header.{headerCheck}
+use Rattle.table.specs.Walk.{among, unmet, walkIn, walked}
+use Rattle.table.specs.Chain.{positionFrom}
+use Rattle.table.specs.Record.{tagAmong, recordCheck, recordsFrom, recordsCheck}
+use Rattle.table.specs.Tag.{tagChar, spaces, padded, tagText, tagForm, sameBytes}
+use Rattle.table.specs.Spare.{allZero, sparesFrom, sparesCheck}
+use Rattle.table.specs.Check.{verdictOf, checkOf}
+use Rattle.layout.specs.RecordLayout.{encodeRecord, decodeRecord, recordForm, soundBytes}
+use Rattle.layout.specs.EntryLayout.{encodePieces, encodeEntry, decodeEntry, entryForm, entryBytes}
+use Rattle.layout.specs.ReportLayout.{encodeReport}
+use Rattle.layout.specs.EventLayout.{encodeEvent, decodeEvent, encodeEvents, decodeEvents, eventsAt}
+use Rattle.block.specs.Sound.{zeroed, flagsFit, codeSound, requestSound, stepSound, timesSound, sound}
+use Rattle.block.specs.Entry.{piecesFit, entryFits}
+use Rattle.block.specs.Dormant.{dormant}
+use Rattle.block.specs.Executing.{usePieces, judge, executing}
+use Rattle.block.specs.Ended.{ended}
+use Rattle.block.specs.Aborting.{aborting}
+use Rattle.block.specs.Resetting.{resetting}
+use Rattle.block.specs.Rules.{rule}
+use Rattle.block.specs.Call.{callWithin, callOf}
+use Rattle.block.specs.Turns.{hasStart}
+use Rattle.block.specs.History.{tickAll, clocksOf, timerOf, takenTimeOut, timeOutInForce}
+use Rattle.engine.specs.Verify.{stateSound, frameForm, verifyOf}
+use Rattle.engine.specs.Inputs.{inputsOf}
+use Rattle.engine.specs.Serve.{callIn, served, servedTo}
+use Rattle.engine.specs.Fresh.{freshOf}
+use Rattle.engine.specs.Scan.{scanBlocks, scanOf}
+use Rattle.engine.specs.Scans.{flagsSeen, stateAfter, journalOf, historyOf}
+use Rattle.engine.specs.RunExamples.{image, buffer, starts, isDone, damaged, fails, rests, isLate, isAborted, works, scans, running, answersOf, passesOf, startsOf, RunExample}
+
+pub run-example : RunExample
+unfolding image buffer starts isDone damaged fails rests isLate isAborted works scans running answersOf passesOf startsOf
+    freshOf stateAfter journalOf historyOf scanOf scanBlocks verifyOf stateSound frameForm servedTo served callIn inputsOf flagsSeen
+    checkOf verdictOf headerCheck walked walkIn unmet among recordsCheck recordsFrom recordCheck tagAmong tagForm tagText tagChar padded
+    spaces sameBytes sparesCheck sparesFrom allZero blocksIn blockIn positionFrom
+    soundBytes recordForm entryBytes entryForm decodeEntry decodeRecord encodeEntry encodePieces encodeRecord encodeReport encodeEvents
+    encodeEvent decodeEvents decodeEvent eventsAt number bytes
+    sound zeroed flagsFit codeSound requestSound stepSound timesSound entryFits piecesFit
+    callOf callWithin rule dormant executing judge usePieces ended aborting resetting
+    timerOf timeOutInForce takenTimeOut tickAll clocksOf hasStart tick since past pastLimit pastTimeOut
+    isKind isEdge hasAbort hasTimeLimit hasTimeOut isContinuous
+run-example =
+    record { made = refl; answers = refl; journal = refl; passes = refl; wired = refl; state = refl; step = refl; elapsed = refl; inForce = refl }

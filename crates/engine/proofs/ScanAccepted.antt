@@ -1,0 +1,201 @@
+-- Which scans are accepted: checks 20 to 41 pass exactly for a state, a frame, a report and a journal that fit, and then a scan over an accepted
+-- table answers with its events, at most two a block. For the run promise, and so that it is about scans that are accepted.
+use Prim.Native.Nat.{ℕ, zero, suc, _+_, _*_, _≤_, _<_}
+use native.Mathlib.Nat.{add-zero, zero-add}
+use native.Mathlib.Omega.{arith}
+use mathlib.Core.Bool.{Bool, true, false}
+use mathlib.Core.List.{List, [], _∷_}
+use mathlib.Core.Path.{_≡_, refl, ap, sym, _∙_}
+use lib.Dec.{eqb, leb}
+use lib.ListN.{length}
+use borrow.Author.Tests.{eqb-true, leb-true, eq-eqb, le-leb}
+use Rattle.table.specs.Place.{require, andThen}
+use Rattle.table.specs.Blocks.{Block, blocksOf, blockAt}
+use Rattle.table.specs.Check.{checkOf}
+use Rattle.table.specs.declared.place.Place.{Place}
+use Rattle.table.specs.declared.place.Place.the-variants.{Position, Header}
+use Rattle.table.specs.declared.place.Verdict.{Verdict}
+use Rattle.table.specs.declared.place.Verdict.the-variants.{Passed, Failed}
+use Rattle.table.specs.declared.check.Checked.{Checked}
+use Rattle.table.specs.declared.check.Checked.the-variants.{Blocks as TableBlocks, Refused as TableRefused}
+use Rattle.table.proofs.Logic.{not-failed, group-passes, rest-passes}
+use Rattle.layout.specs.Buffer.{recordLength, entryLength, reportLength, eventLength, part}
+use Rattle.layout.specs.RecordLayout.{soundBytes}
+use Rattle.layout.specs.EntryLayout.{entryBytes}
+use Rattle.layout.proofs.RecordLaws.{sound-record}
+use Rattle.block.proofs.CallLaws.{call-whole}
+use Rattle.engine.specs.Verify.{stateSound, frameForm, frameLength, reportLengthIs, journalLength, verifyOf}
+use Rattle.engine.specs.Scan.{scanBlocks, scanOf}
+use Rattle.engine.specs.ScanAccepted.{StateFits, GivenFits, VerifyPassesExactly, ScanIsAccepted, EventsAreFew}
+use Rattle.engine.specs.declared.answer.Scanned.{Scanned}
+use Rattle.engine.specs.declared.answer.Scanned.the-variants.{Events, Refused}
+use Rattle.engine.proofs.Projection.{buffersAt, events-few as two-each}
+
+-- one check, and those below it
+require-this : (b : Bool) (number : ℕ) (place : Place) (below : Verdict) → require b number place below ≡ Passed → b ≡ true
+require-this true number place below e = refl
+require-this false number place below e = not-failed _ number place refl e
+
+require-below : (b : Bool) (number : ℕ) (place : Place) (below : Verdict) → require b number place below ≡ Passed → below ≡ Passed
+require-below true number place below e = e
+require-below false number place below e = not-failed _ number place refl e
+
+-- a check of a length
+length-is : (m n number : ℕ) (below : Verdict) → require (eqb m n) number Header below ≡ Passed → m ≡ n
+length-is m n number below e = eqb-true m n (require-this (eqb m n) number Header below e)
+
+-- one test of each block from index i on: of its record (21), or of its entry (31)
+unfoldable every : (ℕ → Block → Bool) → ℕ → ℕ → List Block → Verdict
+every test number i [] = Passed
+every test number i (b ∷ bs) = require (test i b) number (Position (suc i)) (every test number (suc i) bs)
+
+every-passed : (test : ℕ → Block → Bool) (number i : ℕ) (bs : List Block) → every test number i bs ≡ Passed
+    → (j : ℕ) → j < length bs → test (i + j) (blockAt bs j) ≡ true
+unfolding every
+every-passed test number i [] e j l = absurd (omega arith)
+every-passed test number i (b ∷ bs) e zero l = rw add-zero (require-this (test i b) number (Position (suc i)) (every test number (suc i) bs) e)
+every-passed test number i (b ∷ bs) e (suc j) l =
+    let m : i + suc j ≡ suc i + j = omega arith in
+    rw m (every-passed test number (suc i) bs (require-below (test i b) number (Position (suc i)) (every test number (suc i) bs) e) j (omega arith))
+
+every-passes : (test : ℕ → Block → Bool) (number i : ℕ) (bs : List Block) → ((j : ℕ) → j < length bs → test (i + j) (blockAt bs j) ≡ true)
+    → every test number i bs ≡ Passed
+unfolding every
+every-passes test number i [] h = refl
+every-passes test number i (b ∷ bs) h =
+    let first : test i b ≡ true = rw add-zero at (h 0 (omega arith)) in
+    let rest : every test number (suc i) bs ≡ Passed =
+    every-passes test number (suc i) bs (λ j l. let m : suc i + j ≡ i + suc j = omega arith in rw m (h (suc j) (omega arith))) in
+    rw (first, rest)
+
+state-every : (i : ℕ) (bs : List Block) (state : List ℕ) → stateSound i bs state ≡ every (λ j b. soundBytes (b .kind) (part recordLength j state)) 21 i bs
+unfolding stateSound every
+state-every i [] state = refl
+state-every i (b ∷ bs) state = ap (require (soundBytes (b .kind) (part recordLength i state)) 21 (Position (suc i))) (state-every (suc i) bs state)
+
+frame-every : (i : ℕ) (bs : List Block) (frame : List ℕ) → frameForm i bs frame ≡ every (λ j b. entryBytes (part entryLength j frame)) 31 i bs
+unfolding frameForm every
+frame-every i [] frame = refl
+frame-every i (b ∷ bs) frame = ap (require (entryBytes (part entryLength i frame)) 31 (Position (suc i))) (frame-every (suc i) bs frame)
+
+module _ (blocks : List Block) (state frame report journal : List ℕ) where
+  -- the checks below each one
+  abbrev belowReport : Verdict
+  belowReport = journalLength blocks journal Passed
+
+  abbrev belowForm : Verdict
+  belowForm = reportLengthIs blocks report belowReport
+
+  abbrev belowFrame : Verdict
+  belowFrame = andThen (frameForm 0 blocks frame) belowForm
+
+  abbrev belowSound : Verdict
+  belowSound = frameLength blocks frame belowFrame
+
+  abbrev belowState : Verdict
+  belowState = andThen (stateSound 0 blocks state) belowSound
+
+  sound-each : stateSound 0 blocks state ≡ Passed → (k : ℕ) → k < length blocks → soundBytes (blockAt blocks k .kind) (part recordLength k state) ≡ true
+  sound-each e k l =
+      rw zero-add at (every-passed (λ j b. soundBytes (b .kind) (part recordLength j state)) 21 0 blocks (sym (state-every 0 blocks state) ∙ e) k l)
+
+  form-each : frameForm 0 blocks frame ≡ Passed → (k : ℕ) → k < length blocks → entryBytes (part entryLength k frame) ≡ true
+  form-each e k l =
+      rw zero-add at (every-passed (λ j b. entryBytes (part entryLength j frame)) 31 0 blocks (sym (frame-every 0 blocks frame) ∙ e) k l)
+
+  module _ (e : verifyOf blocks state frame report journal ≡ Passed) where
+    state-passed : belowState ≡ Passed
+    unfolding verifyOf
+    state-passed = require-below (eqb (length state) (recordLength * length blocks)) 20 Header belowState e
+
+    sound-passed : belowSound ≡ Passed
+    sound-passed = rest-passes (stateSound 0 blocks state) belowSound state-passed
+
+    frame-passed : belowFrame ≡ Passed
+    frame-passed = require-below (eqb (length frame) (entryLength * length blocks)) 30 Header belowFrame sound-passed
+
+    form-passed : belowForm ≡ Passed
+    form-passed = rest-passes (frameForm 0 blocks frame) belowForm frame-passed
+
+    report-passed : belowReport ≡ Passed
+    report-passed = require-below (eqb (length report) (reportLength * length blocks)) 40 Header belowReport form-passed
+
+    state-fits : StateFits blocks state
+    unfolding verifyOf
+    state-fits =
+        record {
+          sized = length-is (length state) (recordLength * length blocks) 20 belowState e;
+          sound = sound-each (group-passes (stateSound 0 blocks state) belowSound state-passed);
+        }
+
+    given-fits : GivenFits blocks frame report journal
+    given-fits =
+        record {
+          frameSized = length-is (length frame) (entryLength * length blocks) 30 belowFrame sound-passed;
+          form = form-each (group-passes (frameForm 0 blocks frame) belowForm frame-passed);
+          reportSized = length-is (length report) (reportLength * length blocks) 40 belowReport form-passed;
+          room =
+              leb-true (2 * eventLength * length blocks) (length journal)
+              (require-this (leb (2 * eventLength * length blocks) (length journal)) 41 Header Passed report-passed);
+        }
+
+  all-pass : StateFits blocks state → GivenFits blocks frame report journal → verifyOf blocks state frame report journal ≡ Passed
+  unfolding verifyOf
+  all-pass s g =
+      let sound : stateSound 0 blocks state ≡ Passed =
+      state-every 0 blocks state ∙ every-passes (λ j b. soundBytes (b .kind) (part recordLength j state)) 21 0 blocks (λ j l. rw zero-add (s .sound j l)) in
+      let form : frameForm 0 blocks frame ≡ Passed =
+      frame-every 0 blocks frame ∙ every-passes (λ j b. entryBytes (part entryLength j frame)) 31 0 blocks (λ j l. rw zero-add (g .form j l)) in
+      rw (
+        eq-eqb (length state) (recordLength * length blocks) (s .sized),
+        sound,
+        eq-eqb (length frame) (entryLength * length blocks) (g .frameSized),
+        form,
+        eq-eqb (length report) (reportLength * length blocks) (g .reportSized),
+        le-leb (2 * eventLength * length blocks) (length journal) (g .room),
+      )
+
+pub verify-passes : VerifyPassesExactly
+verify-passes blocks state frame report journal =
+    record {
+      stateFits = state-fits blocks state frame report journal;
+      givenFits = given-fits blocks state frame report journal;
+      passes = all-pass blocks state frame report journal;
+    }
+
+pub scan-accepted : ScanIsAccepted
+unfolding scanOf scanBlocks
+scan-accepted image state frame report journal n e s g =
+    let v : verifyOf (blocksOf image) state frame report journal ≡ Passed = all-pass (blocksOf image) state frame report journal s g in
+    rw (e, v) (buffersAt (blocksOf image) frame state report journal (length (blocksOf image)) .events, refl)
+
+refused-not : {A : Type 0} (a : Scanned) (m number : ℕ) (place : Place) → a ≡ Refused number place → a ≡ Events m → A
+refused-not a m number place e f = let z : _≡_ {A = ℕ} 0 1 = cc in absurd (omega arith)
+
+events-same : (a : Scanned) (m n : ℕ) → a ≡ Events m → a ≡ Events n → m ≡ n
+events-same a m n e f = cc
+
+pub events-few : EventsAreFew
+unfolding scanOf scanBlocks
+events-few image state frame report journal m = by (checkOf image) refl (verifyOf (blocksOf image) state frame report journal) refl
+  where
+    count : ℕ
+    count = buffersAt (blocksOf image) frame state report journal (length (blocksOf image)) .events
+
+    -- each call is from a record of the state as it was given, which is sound
+    few : verifyOf (blocksOf image) state frame report journal ≡ Passed → count ≤ 2 * length (blocksOf image)
+    few v =
+        let s = state-fits (blocksOf image) state frame report journal v in
+        two-each (blocksOf image) frame state report journal (s .sized)
+        (λ i l.
+        let kind = blockAt (blocksOf image) i .kind in
+        call-whole kind _ _ _ (sound-record kind (part recordLength i state) (s .sound i l)) .events)
+        (length (blocksOf image)) (omega arith)
+
+    by : (c : Checked) → checkOf image ≡ c → (v : Verdict) → verifyOf (blocksOf image) state frame report journal ≡ v
+        → scanOf image state frame report journal .answer ≡ Events m → m ≤ 2 * length (blocksOf image)
+    by (TableBlocks n) c Passed v a =
+        let e : count ≡ m = events-same (Events count) count m refl (rw (c, v) at a) in
+        omega (arith, few v)
+    by (TableBlocks n) c (Failed number place) v a = refused-not (Refused number place) m number place refl (rw (c, v) at a)
+    by (TableRefused number place) c w v a = refused-not (Refused number place) m number place refl (rw c at a)

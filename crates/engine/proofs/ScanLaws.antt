@@ -1,0 +1,97 @@
+-- One scan over an accepted table, accepted or refused: it keeps the state buffer in form, and of each block it keeps that the history read off the
+-- bytes is one that the machine made. For the list of scans.
+use Prim.Native.Nat.{ℕ, suc, _*_, _≤_, _<_}
+use native.Mathlib.Omega.{arith}
+use mathlib.Core.Bool.{true}
+use mathlib.Core.List.{List, []}
+use mathlib.Core.Path.{_≡_, refl, ap, sym, _∙_, subst}
+use lib.ListN.{length}
+use Rattle.table.specs.Blocks.{blocksOf, blockAt}
+use Rattle.table.specs.Check.{checkOf}
+use Rattle.table.specs.declared.place.Verdict.{Verdict}
+use Rattle.table.specs.declared.place.Verdict.the-variants.{Passed, Failed}
+use Rattle.table.specs.declared.check.Checked.the-variants.{Blocks as TableBlocks}
+use Rattle.layout.specs.Buffer.{recordLength, entryLength, part}
+use Rattle.layout.specs.RecordLayout.{recordForm, RecordFits}
+use Rattle.layout.specs.EventLayout.{Posted, eventsAt}
+use Rattle.layout.proofs.BufferLaws.{part-bytes}
+use Rattle.layout.proofs.EntryLaws.{decode-fits, entry-fits}
+use Rattle.layout.proofs.EventLaws.{at-append}
+use Rattle.block.specs.History.{Seen, History, _then_, entriesOf, recordAfter}
+use Rattle.block.specs.BlockInvariant.{Made, andCall, seenCall}
+use Rattle.engine.specs.Verify.{verifyOf}
+use Rattle.engine.specs.Serve.{recordIn, entryIn}
+use Rattle.engine.specs.Scan.{ScanResult, scanBy, scanBlocks, scanOf}
+use Rattle.engine.specs.Scans.{Given, Bytes, withEvents, withSeen}
+use Rattle.engine.specs.ScanAccepted.{GivenFits}
+use Rattle.engine.proofs.Projection.{state-length, inputsSeen, seen-is, events-none, still-fits, still-form}
+use Rattle.engine.proofs.ScanAccepted.{verify-passes}
+
+-- a state buffer of the right length whose records are in form and fit their bytes
+pub record Held (image state : List ℕ) : Type 0 where
+  pub sized : length state ≡ recordLength * length (blocksOf image)
+  pub fit : (j : ℕ) → RecordFits (recordIn state j)
+  pub form : (j : ℕ) → j < length (blocksOf image) → recordForm (part recordLength j state) ≡ true
+
+-- of the block at index k: its history in the bytes, the events of all blocks so far, and the state buffer
+pub record Kept (image : List ℕ) (k : ℕ) (h : History) (ps : List Posted) (state : List ℕ) : Type 0 where
+  pub record-is : recordIn state k ≡ recordAfter h
+  pub made : Made (blockAt (blocksOf image) k .kind) h
+  pub entries : eventsAt (suc k) ps ≡ entriesOf h
+
+-- the verdict of checks 20 to 41, and what a scan by a verdict leaves
+abbrev pub verdictOf : List ℕ → List ℕ → Given → Verdict
+verdictOf image state g = verifyOf (blocksOf image) state (g .frame) (g .report) (g .journal)
+
+abbrev pub resultBy : Verdict → List ℕ → List ℕ → Given → ScanResult
+resultBy v image state g = scanBy v (blocksOf image) state (g .frame) (g .report) (g .journal)
+
+pub scan-is : (image state : List ℕ) (g : Given) (n : ℕ) → checkOf image ≡ TableBlocks n
+    → scanOf image state (g .frame) (g .report) (g .journal) ≡ resultBy (verdictOf image state g) image state g
+unfolding scanOf scanBlocks
+scan-is image state g n e = rw e
+
+module _ (image buffer state : List ℕ) (g : Given) (framed : Bytes (g .frame)) (s : Held image state) where
+  -- of a scan that passed checks 20 to 41
+  given : verdictOf image state g ≡ Passed → GivenFits (blocksOf image) (g .frame) (g .report) (g .journal)
+  given e = verify-passes (blocksOf image) state (g .frame) (g .report) (g .journal) .givenFits e
+
+  pub held-by : (v : Verdict) → verdictOf image state g ≡ v → Held image (resultBy v image state g .state)
+  held-by (Failed number place) e = s
+  held-by Passed e =
+      let r = given e .reportSized in
+      record {
+        sized = state-length (blocksOf image) (g .frame) state (g .report) (g .journal) (s .sized) (length (blocksOf image)) (omega arith) ∙ s .sized;
+        fit = still-fits (blocksOf image) (g .frame) state (g .report) (g .journal) (s .sized) r framed (s .fit);
+        form = still-form (blocksOf image) (g .frame) state (g .report) (g .journal) (s .sized) r framed (s .fit);
+      }
+
+  pub kept-by : (k : ℕ) → k < length (blocksOf image) → (v : Verdict) → verdictOf image state g ≡ v → (h : History) (ps : List Posted) → Kept image k h ps state
+      → Kept image k (withSeen image buffer k h state g (resultBy v image state g .answer) (resultBy v image state g))
+      (withEvents image buffer ps (resultBy v image state g .answer) (resultBy v image state g)) (resultBy v image state g .state)
+  unfolding recordAfter entriesOf
+  kept-by k l (Failed number place) e h ps x = x
+  kept-by k l Passed e h ps x =
+      let r = given e .reportSized in
+      let kind = blockAt (blocksOf image) k .kind in
+      let entry = entryIn (g .frame) k in
+      let inputs = inputsSeen (blocksOf image) (g .frame) state (g .report) (g .journal) (s .sized) r framed (s .fit) k l in
+      let form = entry-fits (part entryLength k (g .frame)) (given e .form k l) in
+      let clock = decode-fits (part entryLength k (g .frame)) (part-bytes entryLength k (g .frame) framed) .clock in
+      let seen =
+      seen-is (blocksOf image) (g .frame) state (g .report) (g .journal) (s .sized) r framed (s .fit) k l
+      ∙ ap (seenCall kind inputs entry) (x .record-is) in
+      record {
+        record-is = refl;
+        made = subst (λ (q : Seen). Made kind (h then q)) (sym seen) (andCall (x .made) inputs entry form clock);
+        entries = rw (at-append, x .entries);
+      }
+
+  -- past the last block no event has its position
+  pub none-by : (k : ℕ) → length (blocksOf image) ≤ k → (v : Verdict) → verdictOf image state g ≡ v → (ps : List Posted) → eventsAt (suc k) ps ≡ []
+      → eventsAt (suc k) (withEvents image buffer ps (resultBy v image state g .answer) (resultBy v image state g)) ≡ []
+  none-by k l (Failed number place) e ps x = x
+  none-by k l Passed e ps x =
+      let r = given e .reportSized in
+      let all = length (blocksOf image) in
+      rw (at-append, x) (events-none (blocksOf image) (g .frame) state (g .report) (g .journal) (s .sized) r framed (s .fit) k all (omega arith) l)

@@ -1,0 +1,112 @@
+-- One block's step: the flags of a block by their byte, the events of a call appended, and the four parts of `served` put together. For the proofs of
+-- `input_of`, `call_at`, `append_events` and `serve`.
+use Prim.Native.Nat.{ℕ, zero, suc, _+_, _*_, _≤_}
+use native.Mathlib.Nat.{add-assoc}
+use native.Mathlib.Numerals.{add-one}
+use native.Mathlib.Omega.{arith}
+use mathlib.Core.List.{List, [], _∷_, _++_, append-assoc, append-nil}
+use mathlib.Core.Path.{_≡_, refl, ap, sym, _∙_}
+use lib.Dec.{lit<}
+use lib.ListN.{length, take, drop, getD, length-append}
+use lib.Seq.{getD-take, getD-drop, take-at, length-take-le}
+use Rattle.table.specs.Blocks.{Block}
+use Rattle.table.specs.declared.blocks.Wire.{Wire}
+use Rattle.layout.specs.Buffer.{recordLength, reportLength, eventLength, part, put}
+use Rattle.layout.specs.RecordLayout.{flagsOf, encodeRecord, decodeRecord}
+use Rattle.layout.specs.ReportLayout.{encodeReport}
+use Rattle.layout.specs.EventLayout.{encodeEvent, encodeEvents}
+use Rattle.layout.proofs.BufferLaws.{drop-put, put-nothing}
+use Rattle.layout.proofs.EventLaws.{event-length}
+use Rattle.block.specs.Call.{Outcome, callOf}
+use Rattle.block.specs.CallResult.{outcomeOf}
+use Rattle.block.specs.declared.call.CallResult.{CallResult}
+use Rattle.block.specs.declared.event.Event.{Event}
+use Rattle.block.specs.declared.entry.Inputs.{Inputs}
+use Rattle.block.specs.declared.entry.Entry.{Entry}
+use Rattle.block.specs.declared.record.Record.{Record}
+use Rattle.engine.specs.Inputs.{flagsIn, inputOf, inputsOf}
+use Rattle.engine.specs.Serve.{Buffers, recordIn, entryIn, callIn, written, served}
+
+-- "1 flags": byte 1 of the block's record
+pub flags-at : (state : List ℕ) (i : ℕ) → flagsOf (getD state (32 * i + 1) 0) ≡ flagsIn state i
+unfolding decodeRecord
+flags-at state i = ap flagsOf (sym (getD-take 32 (drop (32 * i) state) 1 0 (lit< tt) ∙ getD-drop (32 * i) state 1 0))
+
+-- a block as the code has it, without its tag
+abbrev pub untagged : ℕ → Wire → Wire → Block
+untagged kind start abort = record { kind = kind; tag = []; start = start; abort = abort }
+
+-- a call by its parts
+pub call-is : (kind : ℕ) (start abort : Wire) (i : ℕ) (frame state : List ℕ) (r : Record) (e : Entry) (inputs : Inputs) (o : Outcome)
+    → r ≡ recordIn state i → e ≡ entryIn frame i
+    → inputs .start ≡ inputOf start (flagsIn state) (e .inputs .start) → inputs .abort ≡ inputOf abort (flagsIn state) (e .inputs .abort)
+    → o ≡ callOf kind inputs e r → o ≡ callIn (untagged kind start abort) i frame state
+unfolding callIn inputsOf
+call-is kind start abort i frame state r e inputs o er ee es ea eo =
+    let ei : inputs ≡ inputsOf (untagged kind start abort) (flagsIn state) (e .inputs) = λ j. record { start = es j; abort = ea j } in
+    eo ∙ (λ j. callOf kind (ei j) e (er j)) ∙ ap (λ (x : Entry). callOf kind (inputsOf (untagged kind start abort) (flagsIn state) (x .inputs)) x (recordIn state i)) ee
+
+-- a value put right after another
+put-put : (at : ℕ) (v w s : List ℕ) → at + length v + length w ≤ length s → put (at + length v) w (put at v s) ≡ put at (v ++ w) s
+put-put at v w s fits =
+    let front : length (take at s ++ v) ≡ at + length v = length-append (take at s) v ∙ ap (λ (n : ℕ). n + length v) (length-take-le at s (omega arith)) in
+    let before : take (at + length v) (put at v s) ≡ take at s ++ v =
+    ap (take (at + length v)) (sym (append-assoc (take at s) v (drop (at + length v) s))) ∙ take-at (take at s ++ v) (drop (at + length v) s) (at + length v) front in
+    let after : drop (at + length v + length w) (put at v s) ≡ drop (at + length v + length w) s = drop-put at v s (omega arith) (at + length v + length w) (omega arith) in
+    rw (before, after, length-append, ← add-assoc at (length v) (length w))
+    (append-assoc (take at s) v (w ++ drop (at + length v + length w) s)
+    ∙ ap {B = List ℕ} (λ l. take at s ++ l) (sym (append-assoc v w (drop (at + length v + length w) s))))
+
+put-next : (at n : ℕ) (v w s : List ℕ) → length v ≡ n → at + n + length w ≤ length s → put (at + n) w (put at v s) ≡ put at (v ++ w) s
+put-next at n v w s full fits = ap (λ (m : ℕ). put (at + m) w (put at v s)) (sym full) ∙ put-put at v w s (omega arith)
+
+-- the events of a call: the first `count` of two, appended to a journal of n events
+module _ (n position : ℕ) (first second : Event) (count : ℕ) (journal : List ℕ) where
+  abbrev events : List Event
+  events = take count (first ∷ second ∷ [])
+
+  abbrev Appended : ℕ → List ℕ → Type 0
+  Appended m after = (m ≡ n + length events) × (after ≡ put (eventLength * n) (encodeEvents position events) journal)
+
+  pub append-none : count ≡ 0 → Appended n journal
+  unfolding encodeEvents
+  append-none e = rw e (omega arith, sym (put-nothing (8 * n) journal))
+
+  pub append-one : (after : List ℕ) → count ≡ 1 → after ≡ put (8 * n) (encodeEvent position first) journal → Appended (n + 1) after
+  unfolding encodeEvents
+  append-one after e h = rw e (refl, rw append-nil h)
+
+  both : (count ≡ 0 → ⊥) → (count ≡ 1 → ⊥) → events ≡ first ∷ second ∷ []
+  both z o = go count refl
+    where
+      go : (c : ℕ) → count ≡ c → take c (first ∷ second ∷ []) ≡ first ∷ second ∷ []
+      go zero e = absurd (z e)
+      go (suc zero) e = absurd (o e)
+      go (suc (suc zero)) e = refl
+      go (suc (suc (suc c))) e = refl
+
+  pub append-two : (middle after : List ℕ) → (count ≡ 0 → ⊥) → (count ≡ 1 → ⊥) → 8 * n + 16 ≤ length journal
+      → middle ≡ put (8 * n) (encodeEvent position first) journal → after ≡ put (8 * n + 8) (encodeEvent position second) middle → Appended (n + 2) after
+  unfolding encodeEvents
+  append-two middle after z o room h g =
+      let x = encodeEvent position first in
+      let y = encodeEvent position second in
+      let lx : length x ≡ 8 = event-length position first in
+      let ly : length y ≡ 8 = event-length position second in
+      let p : put (8 * n + 8) y (put (8 * n) x journal) ≡ put (8 * n) (x ++ y) journal = put-next (8 * n) 8 x y journal lx (omega arith) in
+      rw (both z o, append-nil) (refl, g ∙ ap (put (8 * n + 8) y) h ∙ p)
+
+-- what is left in the buffers and the answer, put together
+pub serve-is : (b : Block) (i : ℕ) (frame state report journal : List ℕ) (events : ℕ) (a : CallResult) (newState newReport newJournal : List ℕ) (count : ℕ)
+    → outcomeOf a ≡ callIn b i frame state
+    → newState ≡ put (32 * i) (encodeRecord (a .next)) state
+    → newReport ≡ put (12 * i) (encodeReport (outcomeOf a)) report
+    → newJournal ≡ put (8 * events) (encodeEvents (i + 1) (outcomeOf a .events)) journal
+    → count ≡ events + length (outcomeOf a .events)
+    → _≡_ {A = Buffers} (record { state = newState; report = newReport; journal = newJournal; events = count })
+    (served b i frame (record { state = state; report = report; journal = journal; events = events }))
+unfolding served
+serve-is b i frame state report journal events a newState newReport newJournal count eo es er ej ec =
+    let f : newJournal ≡ put (8 * events) (encodeEvents (suc i) (outcomeOf a .events)) journal = rw add-one at ej in
+    (λ j. record { state = es j; report = er j; journal = f j; events = ec j })
+    ∙ ap (λ (o : Outcome). written i o (record { state = state; report = report; journal = journal; events = events })) eo

@@ -1,0 +1,137 @@
+-- The scan's loop over the blocks: after i of them the buffers are those of `servedTo`, so that the next block can be called. For the proof of `serve_all`.
+use Prim.Native.Nat.{ℕ, zero, suc, _+_, _*_, _≤_, _<_}
+use native.Mathlib.Numerals.{add-one}
+use native.Mathlib.Omega.{arith}
+use mathlib.Core.Bool.{true}
+use mathlib.Core.List.{List, [], _∷_}
+use mathlib.Core.Path.{_≡_, refl, ap, sym, _∙_}
+use lib.Dec.{leb}
+use lib.ListN.{length}
+use borrow.Author.Tests.{leb-true}
+use Rattle.table.specs.Check.{checkOf}
+use Rattle.table.specs.Blocks.{Block, blocksOf, blockAt}
+use Rattle.table.specs.declared.check.Checked.the-variants.{Blocks}
+use Rattle.table.specs.declared.blocks.Wire.{Wire}
+use Rattle.table.proofs.AcceptedLaws.{accepted-blocks, accepted-few, accepted-start, accepted-abort}
+use Rattle.layout.specs.Buffer.{recordLength, entryLength, reportLength, eventLength, part, put}
+use Rattle.layout.specs.RecordLayout.{decodeRecord}
+use Rattle.layout.specs.EntryLayout.{entryBytes}
+use Rattle.layout.specs.ReportLayout.{encodeReport}
+use Rattle.layout.specs.EventLayout.{encodeEvents}
+use Rattle.layout.proofs.BufferLaws.{put-length}
+use Rattle.layout.proofs.RecordLaws.{sound-record}
+use Rattle.layout.proofs.EntryLaws.{entry-fits}
+use Rattle.layout.proofs.ReportLaws.{report-length}
+use Rattle.layout.proofs.EventLaws.{events-length}
+use Rattle.block.specs.Entry.{codeFits, piecesFit, entryFits}
+use Rattle.block.specs.Call.{Outcome}
+use Rattle.block.specs.Sound.{sound}
+use Rattle.block.specs.declared.entry.Entry.{Entry}
+use Rattle.block.proofs.Tests.{each}
+use Rattle.block.proofs.CallLaws.{call-whole}
+use Rattle.engine.specs.Inputs.{inputsOf}
+use Rattle.engine.specs.Serve.{Buffers, recordIn, entryIn, callIn, served, servedTo}
+use Rattle.engine.specs.Callable.{Callable}
+use Rattle.engine.specs.ScanAccepted.{StateFits, GivenFits}
+use Rattle.engine.proofs.GridLaws.{grid-length}
+use Rattle.engine.proofs.Projection.{buffersAt, outcomeAt, state-length, state-later, events-few}
+use Rattle.engine.proofs.ServeLaws.{untagged}
+
+-- "piece count n, 0 to 4"
+count-few : (e : Entry) → entryFits e ≡ true → e .count ≤ 4
+unfolding entryFits
+count-few e h =
+    leb-true (e .count) 4
+    (each (leb (e .count) 4) (leb (e .«abort_reply») 2 ∷ leb (e .«reset_reply») 1 ∷ codeFits (e .«abort_reply») (e .«abort_code») ∷ piecesFit (e .count) 0 (e .pieces) ∷ []) h .0)
+
+-- the buffers after n blocks, of what passed checks 20 to 41
+module _ (blocks : List Block) (frame state report journal : List ℕ) (s : StateFits blocks state) (g : GivenFits blocks frame report journal) where
+  abbrev after : ℕ → Buffers
+  after n = buffersAt blocks frame state report journal n
+
+  abbrev outcome : ℕ → Outcome
+  outcome i = outcomeAt blocks frame state report journal i
+
+  few : (n : ℕ) → n ≤ length blocks → after n .events ≤ 2 * n
+  few n l =
+      events-few blocks frame state report journal (s .sized)
+      (λ i h. call-whole (blockAt blocks i .kind) _ _ _ (sound-record (blockAt blocks i .kind) (part recordLength i state) (s .sound i h)) .events) n l
+
+  report-next : (i : ℕ) → after (suc i) .report ≡ put (reportLength * i) (encodeReport (outcome i)) (after i .report)
+  unfolding servedTo served
+  report-next i = refl
+
+  report-sized : (n : ℕ) → n ≤ length blocks → length (after n .report) ≡ length report
+  unfolding servedTo
+  report-sized n l =
+      grid-length reportLength (λ i. encodeReport (outcome i)) (λ i. after i .report) (λ i. report-length (outcome i)) report-next n (omega (arith, g .reportSized))
+
+  journal-sized : (n : ℕ) → n ≤ length blocks → length (after n .journal) ≡ length journal
+  unfolding servedTo served
+  journal-sized zero l = refl
+  journal-sized (suc i) l =
+      let h = journal-sized i (omega arith) in
+      let e = events-length (suc i) (outcome i .events) in
+      put-length (eventLength * after i .events) (encodeEvents (suc i) (outcome i .events)) (after i .journal) (omega (arith, g .room, few (suc i) l))
+      ∙ h
+
+-- the buffers after i blocks
+pub record Serving (blocks : List Block) (frame state₀ report₀ journal₀ : List ℕ) (i : ℕ) (state report journal : List ℕ) (events : ℕ) : Type 0 where
+  pub within : i ≤ length blocks
+  pub whole : _≡_ {A = Buffers} (record { state = state; report = report; journal = journal; events = events })
+      (servedTo blocks frame i (record { state = state₀; report = report₀; journal = journal₀; events = 0 }))
+
+pub serving-start : (blocks : List Block) (frame state report journal : List ℕ) → Serving blocks frame state report journal 0 state report journal 0
+unfolding servedTo
+serving-start blocks frame state report journal = record { within = omega arith; whole = refl }
+
+module _ (blocks : List Block) (frame state₀ report₀ journal₀ : List ℕ) (i : ℕ) (state report journal : List ℕ) (events : ℕ)
+    (h : Serving blocks frame state₀ report₀ journal₀ i state report journal events) where
+  pub serving-sized : StateFits blocks state₀ → GivenFits blocks frame report₀ journal₀
+      → (length state ≡ length state₀) × (length report ≡ length report₀) × (length journal ≡ length journal₀) × (events ≤ 2 * i)
+  serving-sized s g = (
+    ap (λ (b : Buffers). length (b .state)) (h .whole) ∙ state-length blocks frame state₀ report₀ journal₀ (s .sized) i (h .within),
+    ap (λ (b : Buffers). length (b .report)) (h .whole) ∙ report-sized blocks frame state₀ report₀ journal₀ s g i (h .within),
+    ap (λ (b : Buffers). length (b .journal)) (h .whole) ∙ journal-sized blocks frame state₀ report₀ journal₀ s g i (h .within),
+    rw (ap (λ (b : Buffers). b .events) (h .whole)) (few blocks frame state₀ report₀ journal₀ s g i (h .within)),
+  )
+
+  -- the record of the next block is the one from before
+  serving-record : StateFits blocks state₀ → recordIn state i ≡ recordIn state₀ i
+  serving-record s =
+      ap decodeRecord
+      (ap (λ (b : Buffers). part recordLength i (b .state)) (h .whole) ∙ state-later blocks frame state₀ report₀ journal₀ (s .sized) i i (h .within) (omega arith))
+
+  module _ (kind : ℕ) (start abort : Wire) (ek : kind ≡ blockAt blocks i .kind) (es : start ≡ blockAt blocks i .start) (ea : abort ≡ blockAt blocks i .abort) where
+    served-as : (b : Buffers) → served (untagged kind start abort) i frame b ≡ served (blockAt blocks i) i frame b
+    unfolding served callIn inputsOf
+    served-as b = rw (ek, es, ea)
+
+    pub serving-on : (newState newReport newJournal : List ℕ) (count : ℕ) → i < length blocks
+        → _≡_ {A = Buffers} (record { state = newState; report = newReport; journal = newJournal; events = count })
+        (served (untagged kind start abort) i frame (record { state = state; report = report; journal = journal; events = events }))
+        → Serving blocks frame state₀ report₀ journal₀ (i + 1) newState newReport newJournal count
+    unfolding servedTo
+    serving-on newState newReport newJournal count l e =
+        rw add-one (record { within = l; whole = e ∙ served-as _ ∙ ap (served (blockAt blocks i) i frame) (h .whole) })
+
+    -- the next block of an accepted table can be called
+    pub serving-callable : (image : List ℕ) (n : ℕ) → checkOf image ≡ Blocks n → blocks ≡ blocksOf image → StateFits blocks state₀ → GivenFits blocks frame report₀ journal₀ → i < n
+        → Callable (untagged kind start abort) i frame state × ((12 * i + 12 ≤ length report) × (8 * events + 16 ≤ length journal))
+    serving-callable image n ok eb s g l =
+        let z = serving-sized s g in
+        let c : length blocks ≡ n = ap length eb ∙ accepted-blocks image n ok in (
+          record {
+            few = omega (arith, accepted-few image n ok);
+            own = omega (arith, z .0, s .sized);
+            entry = omega (arith, g .frameSized);
+            start = rw (es, eb) (omega (arith, z .0, s .sized, accepted-start image n ok i l .within));
+            abort = rw (ea, eb) (omega (arith, z .0, s .sized, accepted-abort image n ok i l .within));
+            isSound = rw (ek, serving-record s) (sound-record (blockAt blocks i .kind) (part recordLength i state₀) (s .sound i (omega arith)));
+            pieces = count-few (entryIn frame i) (entry-fits (part entryLength i frame) (g .form i (omega arith)));
+          },
+          (
+            omega (arith, z .1, g .reportSized),
+            omega (arith, z .2, z .3, g .room),
+          ),
+        )

@@ -1,0 +1,63 @@
+-- Checks 21 and 31 as loops: what is left of the blocks gives the whole verdict. One law for both, over the test of a block and the check's number:
+-- for the proofs of `check_state` and `check_frame`. And the verdict of `verify`, by the first check that fails.
+use Prim.Native.Nat.{ℕ, zero, suc, _+_, _*_, _≤_, _<_}
+use native.Mathlib.Numerals.{add-one}
+use native.Mathlib.Omega.{arith}
+use mathlib.Core.Bool.{Bool, true, false}
+use mathlib.Core.List.{List, [], _∷_}
+use mathlib.Core.Path.{_≡_, refl, ap, sym, _∙_}
+use lib.ListN.{length, drop, drop-of-length-le}
+use lib.Seq.{drop-cons}
+use Rattle.table.specs.Place.{require}
+use Rattle.table.specs.Blocks.{Block, noBlock, blockAt}
+use Rattle.table.specs.declared.place.Place.the-variants.{Position}
+use Rattle.table.specs.declared.place.Verdict.{Verdict}
+use Rattle.table.specs.declared.place.Verdict.the-variants.{Passed, Failed}
+use Rattle.layout.specs.Buffer.{recordLength, entryLength, part}
+use Rattle.layout.specs.RecordLayout.{soundBytes}
+use Rattle.layout.specs.EntryLayout.{entryBytes}
+use Rattle.engine.specs.Verify.{stateSound, frameForm}
+
+-- a check of each block, from an index on
+pub record Each (test : ℕ → Block → Bool) (number : ℕ) (check : ℕ → List Block → Verdict) : Type 0 where
+  pub none : (i : ℕ) → check i [] ≡ Passed
+  pub one : (i : ℕ) (b : Block) (bs : List Block) → check i (b ∷ bs) ≡ require (test i b) number (Position (suc i)) (check (suc i) bs)
+
+-- the blocks from index i on are all that are left to check
+abbrev pub Left : (ℕ → List Block → Verdict) → List Block → ℕ → Type 0
+Left check blocks i = check 0 blocks ≡ check i (drop i blocks)
+
+module _ (test : ℕ → Block → Bool) (number : ℕ) (check : ℕ → List Block → Verdict) (each : Each test number check) (blocks : List Block) (i : ℕ) (left : Left check blocks i) where
+  next : i < length blocks → check 0 blocks ≡ require (test i (blockAt blocks i)) number (Position (suc i)) (check (suc i) (drop (suc i) blocks))
+  next l = left ∙ ap (check i) (drop-cons blocks i noBlock l) ∙ each .one i (blockAt blocks i) (drop (suc i) blocks)
+
+  pub left-failed : i < length blocks → test i (blockAt blocks i) ≡ false → Failed number (Position (i + 1)) ≡ check 0 blocks
+  left-failed l f = rw add-one (sym (rw f at (next l)))
+
+  pub left-on : i < length blocks → test i (blockAt blocks i) ≡ true → Left check blocks (i + 1)
+  left-on l t = rw add-one (rw t at (next l))
+
+  pub left-end : length blocks ≤ i → Passed ≡ check 0 blocks
+  left-end l = sym (left ∙ ap (check i) (drop-of-length-le blocks {i = i} l) ∙ each .none i)
+
+-- "21 unsound; first position"
+abbrev pub stateTest : List ℕ → ℕ → Block → Bool
+stateTest state i b = soundBytes (b .kind) (part recordLength i state)
+
+abbrev pub stateCheck : List ℕ → ℕ → List Block → Verdict
+stateCheck state i bs = stateSound i bs state
+
+pub state-each : (state : List ℕ) → Each (stateTest state) 21 (stateCheck state)
+unfolding stateSound
+state-each state = record { none = λ i. refl; one = λ i b bs. refl }
+
+-- "31 an entry not as above; first position"
+abbrev pub frameTest : List ℕ → ℕ → Block → Bool
+frameTest frame i b = entryBytes (part entryLength i frame)
+
+abbrev pub frameCheck : List ℕ → ℕ → List Block → Verdict
+frameCheck frame i bs = frameForm i bs frame
+
+pub frame-each : (frame : List ℕ) → Each (frameTest frame) 31 (frameCheck frame)
+unfolding frameForm
+frame-each frame = record { none = λ i. refl; one = λ i b bs. refl }

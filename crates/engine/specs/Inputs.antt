@@ -1,0 +1,29 @@
+-- Document 01, "Table image": the inputs of a call, from the wires and the frame.
+use Prim.Native.Nat.{ℕ, _-_}
+use mathlib.Core.Bool.{Bool, not, cond}
+use mathlib.Core.List.{List}
+use lib.Dec.{eqb}
+use Rattle.table.specs.Blocks.{Block}
+use Rattle.table.specs.declared.blocks.Wire.{Wire}
+use Rattle.layout.specs.Buffer.{recordLength, part}
+use Rattle.layout.specs.RecordLayout.{decodeRecord}
+use Rattle.block.specs.declared.record.Flags.{Flags}
+use Rattle.block.specs.declared.entry.Inputs.{Inputs}
+
+-- the flags of the block at an index, from 0, in a state buffer
+abbrev pub flagsIn : List ℕ → ℕ → Flags
+flagsIn state i = decodeRecord (part recordLength i state) .flags
+
+-- "flag (0 busy, 1 done, 2 error, 3 aborted)"
+abbrev pub flagOf : ℕ → Flags → Bool
+flagOf n f = cond (eqb n 0) (f .busy) (cond (eqb n 1) (f .done) (cond (eqb n 2) (f .error) (f .aborted)))
+
+-- "Wire slot 0 takes the input bit from the frame"; otherwise the flag, perhaps inverted. `flags` gives the flags of a block by its index.
+abbrev pub inputOf : Wire → (ℕ → Flags) → Bool → Bool
+inputOf w flags bit =
+    cond (eqb (w .position) 0) bit
+    (cond (w .inverted) (not (flagOf (w .flag) (flags (w .position - 1)))) (flagOf (w .flag) (flags (w .position - 1))))
+
+-- both inputs of a block; the frame's own bits where no wire is
+unfoldable pub inputsOf : Block → (ℕ → Flags) → Inputs → Inputs
+inputsOf b flags i = record { start = inputOf (b .start) flags (i .start); abort = inputOf (b .abort) flags (i .abort) }

@@ -1,0 +1,10 @@
+pub mod Verify
+pub mod Inputs
+pub mod Serve
+pub mod Callable
+pub mod Fresh
+pub mod Scan
+pub mod ScanAccepted
+pub mod Scans
+pub mod RunInvariant
+pub mod RunExamples

@@ -1,0 +1,134 @@
+-- A list of scans over bytes, computed: each kind of finish, a refused scan in the middle, a wire, and a clock that turns. Beside the run promise, so that
+-- what it speaks of is seen to happen.
+use Prim.Native.Nat.{ℕ}
+use mathlib.Core.Bool.{Bool, true, false}
+use mathlib.Core.List.{List, [], _∷_, _++_}
+use mathlib.Core.Path.{_≡_}
+use lib.ListN.{replicate}
+use Rattle.table.specs.Place.{Answer, value, refusal}
+use Rattle.layout.specs.EntryLayout.{encodeEntry}
+use Rattle.layout.specs.EventLayout.{Posted}
+use Rattle.block.specs.Record.{Executing}
+use Rattle.block.specs.Event.{Start, DoneEvent, Failed, AbortedEvent, Withdrawn}
+use Rattle.block.specs.Entry.{Working, Complete, ErrorReply}
+use Rattle.block.specs.History.{History, fresh, _then_, timerOf, timeOutInForce}
+use Rattle.block.specs.declared.entry.Piece.{Piece}
+use Rattle.block.specs.declared.entry.Entry.{Entry}
+use Rattle.engine.specs.Serve.{recordIn}
+use Rattle.engine.specs.Fresh.{freshOf, freshAnswer}
+use Rattle.engine.specs.Scan.{scanAnswer}
+use Rattle.engine.specs.Scans.{Scans, none, _andThen_, Given, stateAfter, journalOf, resultOf, historyOf}
+
+-- Two blocks: position 1 is slot 2, of kind 7 (ETrigATo), tag PUMP; position 2 is slot 1, of kind 9 (LCon), tag FAN, its start wired to the busy flag of slot 2.
+unfoldable pub image : List ℕ
+image =
+    1 ∷ 2 ∷ 2 ∷ 0
+    ∷ 9 ∷ 0 ∷ 2 ∷ 0 ∷ 0 ∷ 0 ∷ 0 ∷ 0 ∷ 70 ∷ 65 ∷ 78 ∷ 32 ∷ 32 ∷ 32 ∷ 32 ∷ 32
+    ∷ 7 ∷ 1 ∷ 0 ∷ 0 ∷ 0 ∷ 0 ∷ 0 ∷ 0 ∷ 80 ∷ 85 ∷ 77 ∷ 80 ∷ 32 ∷ 32 ∷ 32 ∷ 32
+    ∷ []
+
+-- what fresh is lent
+unfoldable pub buffer : List ℕ
+buffer = replicate 64 255
+
+abbrev noPiece : Piece
+noPiece = record { reply = Working; code = 0; clock = 0 }
+
+-- an entry of `count` pieces, the first as given; abort and reset reply complete
+abbrev entryOf : Bool → Bool → ℕ → ℕ → ℕ → ℕ → Piece → Entry
+entryOf start abort job timeout clock count piece =
+    record {
+      inputs = record { start = start; abort = abort };
+      count = count;
+      «abort_reply» = Complete;
+      «reset_reply» = Complete;
+      «abort_code» = 0;
+      job = job;
+      limit = 0;
+      timeout = timeout;
+      clock = clock;
+      pieces = piece ∷ noPiece ∷ noPiece ∷ noPiece ∷ [];
+    }
+
+-- the entry of FAN: its own start bit is 0, and counts for nothing
+abbrev fan : ℕ → Entry
+fan job = entryOf false false job 0 0 0 noPiece
+
+abbrev scan : Entry → Entry → Given
+scan pump fan = record { frame = encodeEntry pump ++ encodeEntry fan; report = replicate 24 255; journal = replicate 32 255 }
+
+-- job 7 starts at 4,294,967,290
+unfoldable pub starts : Given
+starts = scan (entryOf true false 7 100 4294967290 1 (record { reply = Working; code = 0; clock = 4294967295 })) (fan 1)
+
+-- the clock turns; job 7 is done, and FAN, no longer started, is withdrawn
+unfoldable pub isDone : Given
+isDone = scan (entryOf false false 99 0 5 1 (record { reply = Complete; code = 0; clock = 10 })) (fan 2)
+
+-- FAN's entry says five pieces: refused
+unfoldable pub damaged : Given
+damaged = scan (entryOf true false 77 0 15 0 noPiece) (entryOf true false 78 0 0 5 noPiece)
+
+-- reset and started again in one call: job 8 fails by its reply
+unfoldable pub fails : Given
+fails = scan (entryOf true false 8 10 20 1 (record { reply = ErrorReply; code = 5; clock = 25 })) (fan 3)
+
+-- back to Dormant
+unfoldable pub rests : Given
+rests = scan (entryOf false false 0 0 30 0 noPiece) (fan 4)
+
+-- job 9 is complete 11 after its start, past its time-out of 10, as the clock turns
+unfoldable pub isLate : Given
+isLate = scan (entryOf true false 9 10 4294967290 1 (record { reply = Complete; code = 0; clock = 5 })) (fan 5)
+
+-- job 10 is started and aborted
+unfoldable pub isAborted : Given
+isAborted = scan (entryOf true true 10 0 50 0 noPiece) (fan 6)
+
+-- job 7 is still worked at, past the turn of the clock
+unfoldable pub works : Given
+works = scan (entryOf true false 99 0 5 1 (record { reply = Working; code = 0; clock = 9 })) (fan 2)
+
+unfoldable pub scans : Scans
+scans = none andThen starts andThen isDone andThen damaged andThen fails andThen rests andThen isLate andThen rests andThen isAborted
+
+-- a job that stays open, with a refused scan in between
+unfoldable pub running : Scans
+running = none andThen starts andThen damaged andThen works
+
+-- what each scan answered, in the order of the scans
+unfoldable pub answersOf : Scans → List Answer
+answersOf none = []
+answersOf (h andThen g) = answersOf h ++ (scanAnswer (resultOf image buffer h g .answer) ∷ [])
+
+-- the passes of each call, as the reports state them
+unfoldable pub passesOf : History → List ℕ
+passesOf fresh = []
+passesOf (h then s) = passesOf h ++ (s .passes ∷ [])
+
+-- the start input of each call, after wires
+unfoldable pub startsOf : History → List Bool
+startsOf fresh = []
+startsOf (h then s) = startsOf h ++ (s .inputs .start ∷ [])
+
+abbrev at : ℕ → ℕ → ℕ → ℕ → Posted
+at position kind code job = record { position = position; event = record { kind = kind; code = code; job = job } }
+
+-- theorem run-example, proofs/RunExamples.antt
+pub record RunExample : Type 0 where
+  pub made : freshAnswer (freshOf image buffer .answer) ≡ value 2
+  pub answers : answersOf scans
+      ≡ value 2 ∷ value 2 ∷ refusal 31 2 ∷ value 2 ∷ value 0 ∷ value 2 ∷ value 0 ∷ value 2 ∷ []
+  pub journal : journalOf image buffer scans
+      ≡ at 1 Start 0 7 ∷ at 2 Start 0 1 ∷ at 1 DoneEvent 0 7 ∷ at 2 Withdrawn 0 1
+      ∷ at 1 Start 0 8 ∷ at 1 Failed 5 8 ∷ at 1 Start 0 9 ∷ at 1 Failed 1 9 ∷ at 1 Start 0 10 ∷ at 1 AbortedEvent 0 10 ∷ []
+  pub passes : passesOf (historyOf image buffer 0 scans) ≡ 2 ∷ 2 ∷ 5 ∷ 2 ∷ 3 ∷ 2 ∷ 4 ∷ []
+  -- FAN reads PUMP's flag of the same scan
+  pub wired : startsOf (historyOf image buffer 1 scans) ≡ true ∷ false ∷ false ∷ false ∷ false ∷ false ∷ false ∷ []
+  -- Aborted, flag aborted, job 10, last reading 50; FAN dormant
+  pub state : stateAfter image buffer scans
+      ≡ 5 ∷ 8 ∷ 0 ∷ 0 ∷ 10 ∷ 0 ∷ 0 ∷ 0 ∷ 0 ∷ 0 ∷ 0 ∷ 0 ∷ 0 ∷ 0 ∷ 0 ∷ 0 ∷ 0 ∷ 0 ∷ 0 ∷ 0 ∷ 50 ∷ replicate 43 0
+  -- Executing, 15 since the start, with the time-out of the start in force
+  pub step : recordIn (stateAfter image buffer running) 0 .step ≡ Executing
+  pub elapsed : timerOf (historyOf image buffer 0 running) ≡ record { last = 9; elapsed = 15 }
+  pub inForce : timeOutInForce 7 (historyOf image buffer 0 running) ≡ 100

@@ -1,0 +1,71 @@
+-- Demand 3 of document 01, the run promise: one claim about any list of scans from fresh, refused ones included.
+use Prim.Native.Nat.{ℕ, suc, _+_, _≤_, _<_}
+use mathlib.Core.Bool.{true, cond}
+use mathlib.Core.List.{List, []}
+use mathlib.Core.Logic.{_≢_}
+use mathlib.Core.Option.{none}
+use mathlib.Core.Path.{_≡_}
+use lib.Dec.{eqb}
+use lib.ListN.{length}
+use Rattle.table.specs.Blocks.{blocksOf, blockAt}
+use Rattle.layout.specs.Buffer.{recordLength, part}
+use Rattle.layout.specs.RecordLayout.{soundBytes}
+use Rattle.layout.specs.EventLayout.{eventsAt}
+use Rattle.block.specs.Record.{Dormant, Executing}
+use Rattle.block.specs.Event.{Start, DoneEvent, Failed, AbortedEvent, Withdrawn}
+use Rattle.block.specs.Turns.{Turns, countOf}
+use Rattle.block.specs.History.{timerOf, takenTimeOut, timeOutInForce, entriesOf as entriesSeen}
+use Rattle.block.specs.BlockInvariant.{EachCall, isOpen, openJob, flagCount, bit}
+use Rattle.block.specs.declared.record.Record.{Record}
+use Rattle.block.specs.declared.event.Event.{Event}
+use Rattle.engine.specs.Serve.{recordIn}
+use Rattle.engine.specs.Fresh.{freshOf}
+use Rattle.engine.specs.Scans.{Scans, Framed, stateAfter, journalOf, historyOf}
+use Rattle.engine.specs.declared.answer.Freshened.the-variants.{Blocks}
+
+module _ (image buffer : List ℕ) (scans : Scans) (k : ℕ) where
+  -- the kind of the block at index k, whose position is k + 1
+  abbrev pub kindOf : ℕ
+  kindOf = blockAt (blocksOf image) k .kind
+
+  -- "Step and flags are those in the state buffer after the list."
+  abbrev pub recordOf : Record
+  recordOf = recordIn (stateAfter image buffer scans) k
+
+  -- "A block's entries are the events there with its position."
+  abbrev pub entriesOf : List Event
+  entriesOf = eventsAt (suc k) (journalOf image buffer scans)
+
+  -- what holds of one block
+  pub record BlockRun : Type 0 where
+    -- "The entries, if any, begin with a start and take turns; the last may be a start", each finish with its start's job; a job is open in Executing and Aborting
+    pub turns : Turns kindOf none entriesOf (openJob recordOf)
+    -- starts are done, failed, aborted and withdrawn, and the open job
+    pub balance : countOf Start entriesOf
+        ≡ countOf DoneEvent entriesOf + countOf Failed entriesOf + countOf AbortedEvent entriesOf + countOf Withdrawn entriesOf + bit (isOpen (recordOf .step))
+    -- no flag in Dormant, one in every other step
+    pub flags : flagCount (recordOf .flags) ≡ cond (eqb (recordOf .step) Dormant) 0 1
+    -- each accepted scan called the block by the rules, from the record before to the record after, with the passes (at most 6) and pieces of its report; "A start's job is that of the block's frame entry in the scan that wrote it"
+    pub calls : EachCall kindOf (historyOf image buffer k scans)
+    -- the entries are the events of these calls, in the order of the scans
+    pub entries : entriesOf ≡ entriesSeen (historyOf image buffer k scans)
+    -- in Executing with a time-out in force, elapsed as the readings give it is at most that
+    pub inTime : recordOf .step ≡ Executing → timeOutInForce kindOf (historyOf image buffer k scans) ≢ 0
+        → timerOf (historyOf image buffer k scans) .elapsed ≤ timeOutInForce kindOf (historyOf image buffer k scans)
+    -- the record's elapsed and last reading are those that the readings give
+    pub elapsed : recordOf .step ≡ Executing → recordOf .timer ≡ timerOf (historyOf image buffer k scans)
+    -- the stored time-out is the one that the last start took
+    pub stored : recordOf .step ≡ Executing → recordOf .timeout ≡ takenTimeOut kindOf (historyOf image buffer k scans)
+    -- the bytes of its record are sound
+    pub sound : soundBytes kindOf (part recordLength k (stateAfter image buffer scans)) ≡ true
+
+-- the claim: for every table and buffer of which fresh made a state, and every list of scans over them, it holds of each block
+pub record RunInvariant (image buffer : List ℕ) (scans : Scans) : Type 0 where
+  pub blocks : (k : ℕ) → k < length (blocksOf image) → BlockRun image buffer scans k
+  -- every event of the journal is an entry of one of the blocks
+  pub positions : (k : ℕ) → length (blocksOf image) ≤ k → eventsAt (suc k) (journalOf image buffer scans) ≡ []
+
+-- theorem run-invariant, proofs/RunInvariant.antt
+abbrev pub RunInvariantHolds : Type 0
+RunInvariantHolds =
+    (image buffer : List ℕ) (n : ℕ) → freshOf image buffer .answer ≡ Blocks n → (scans : Scans) → Framed scans → RunInvariant image buffer scans

@@ -1,0 +1,49 @@
+-- Document 01, "Turned back": checks 20 to 41, from the top down.
+use Prim.Native.Nat.{ℕ, suc, _*_}
+use mathlib.Core.List.{List, [], _∷_}
+use lib.Dec.{eqb, leb}
+use lib.ListN.{length}
+use Rattle.table.specs.Place.{require, andThen}
+use Rattle.table.specs.Blocks.{Block}
+use Rattle.table.specs.declared.place.Place.the-variants.{Header, Position}
+use Rattle.table.specs.declared.place.Verdict.{Verdict}
+use Rattle.table.specs.declared.place.Verdict.the-variants.{Passed}
+use Rattle.layout.specs.Buffer.{recordLength, entryLength, reportLength, eventLength, part}
+use Rattle.layout.specs.RecordLayout.{soundBytes}
+use Rattle.layout.specs.EntryLayout.{entryBytes}
+
+-- "20 length not 32 × blocks"
+abbrev pub stateLength : List Block → List ℕ → Verdict → Verdict
+stateLength blocks state below = require (eqb (length state) (recordLength * length blocks)) 20 Header below
+
+-- "21 unsound (not for fresh); first position": the blocks from index i on
+unfoldable pub stateSound : ℕ → List Block → List ℕ → Verdict
+stateSound i [] state = Passed
+stateSound i (b ∷ bs) state = require (soundBytes (b .kind) (part recordLength i state)) 21 (Position (suc i)) (stateSound (suc i) bs state)
+
+-- "30 length not 56 × blocks"
+abbrev pub frameLength : List Block → List ℕ → Verdict → Verdict
+frameLength blocks frame below = require (eqb (length frame) (entryLength * length blocks)) 30 Header below
+
+-- "31 an entry not as above; first position": n entries from index i on
+unfoldable pub frameForm : ℕ → List Block → List ℕ → Verdict
+frameForm i [] frame = Passed
+frameForm i (b ∷ bs) frame = require (entryBytes (part entryLength i frame)) 31 (Position (suc i)) (frameForm (suc i) bs frame)
+
+-- "40 length not 12 × blocks"
+abbrev pub reportLengthIs : List Block → List ℕ → Verdict → Verdict
+reportLengthIs blocks report below = require (eqb (length report) (reportLength * length blocks)) 40 Header below
+
+-- "41 length under 16 × blocks": two events a block
+abbrev pub journalLength : List Block → List ℕ → Verdict → Verdict
+journalLength blocks journal below = require (leb (2 * eventLength * length blocks) (length journal)) 41 Header below
+
+-- "then ... the scan 20 to 41"; "Checks run from the top down, the first that fails is given"
+unfoldable pub verifyOf : List Block → List ℕ → List ℕ → List ℕ → List ℕ → Verdict
+verifyOf blocks state frame report journal =
+    stateLength blocks state
+    (andThen (stateSound 0 blocks state)
+    (frameLength blocks frame
+    (andThen (frameForm 0 blocks frame)
+    (reportLengthIs blocks report
+    (journalLength blocks journal Passed)))))

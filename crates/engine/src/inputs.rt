@@ -1,0 +1,53 @@
+// Wires and frame to the inputs of a call.
+use block::entry::Inputs;
+use block::record::Flags;
+use table::blocks::Wire;
+ghost use mathlib.Core.Path.{_≡_};
+ghost use Prim.Native.Nat.{_*_, _≤_};
+ghost use lib.ListN.{length};
+ghost use Rattle.engine.specs.Inputs.{flagsIn, flagOf, inputOf};
+
+// Flag 0 busy, 1 done, 2 error, else aborted.
+fn flag_of(n: u8, f: Flags) -> bool
+    ensures { λ r. ⌜ r ≡ flagOf n f ⌝ }
+{
+    if n == 0 {
+        return f.busy;
+    }
+    if n == 1 {
+        return f.done;
+    }
+    if n == 2 {
+        return f.error;
+    }
+    f.aborted
+}
+
+// One input: the frame's bit, or a flag as it stands in the state.
+fn input_of(w: Wire, state: &[u8], bit: bool) -> bool
+    requires { ⌜ 32 * w .position ≤ length (now state) ⌝ }
+    ensures { λ r. ⌜ r ≡ inputOf w (flagsIn (now (state .entry))) bit ⌝ }
+{
+    let position = w.position;
+    if position == 0 {
+        return bit;
+    }
+    let i = position as usize - 1;
+    let flags = layout::record::flags_of(state[32 * i + 1]);
+    let flag = flag_of(w.flag, flags);
+    if w.inverted {
+        return !flag;
+    }
+    flag
+}
+
+// Both inputs of a block, from its wires and the frame's bits.
+pub fn inputs_of(start: Wire, abort: Wire, state: &[u8], bits: Inputs) -> Inputs
+    requires { ⌜ (32 * start .position ≤ length (now state)) × (32 * abort .position ≤ length (now state)) ⌝ }
+    ensures { λ r. ⌜ (r .start ≡ inputOf start (flagsIn (now (state .entry))) (bits .start)) × (r .abort ≡ inputOf abort (flagsIn (now (state .entry))) (bits .abort)) ⌝ }
+{
+    Inputs {
+        start: input_of(start, state, bits.start),
+        abort: input_of(abort, state, bits.abort),
+    }
+}

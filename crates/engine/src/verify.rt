@@ -1,0 +1,90 @@
+// Checks 20 to 41, which only read.
+use table::place::Place;
+use table::place::Verdict;
+ghost use mathlib.Core.List.{List};
+ghost use mathlib.Core.Path.{_≡_};
+ghost use Prim.Native.Nat.{_*_, _≤_};
+ghost use lib.ListN.{length};
+ghost use Rattle.table.specs.Check.{Accepted};
+ghost use Rattle.table.specs.Blocks.{Block, blocksOf};
+ghost use Rattle.engine.specs.Verify.{stateSound, frameForm, verifyOf};
+
+// Check 21: the first position whose record is not sound.
+fn check_state(
+    image: &[u8],
+    slots: &[u8; 64],
+    positions: &[u8; 65],
+    count: usize,
+    state: &[u8],
+) -> Verdict
+    requires { ⌜ Accepted (now image) count (now slots) (now positions) ⌝ }
+    requires { ⌜ length (now state) ≡ 32 * count ⌝ }
+    ensures { λ r. ⌜ r ≡ stateSound 0 (blocksOf (now (image .entry))) (now (state .entry)) ⌝ }
+{
+    let mut i = 0;
+    while i < count {
+        let kind = table::blocks::kind_at(image, slots, positions, count, i);
+        let at = 32 * i;
+        let end = at + 32;
+        if !layout::record::sound_bytes(kind, &state[at..end]) {
+            return Verdict::Failed(21, Place::Position((i + 1) as u8));
+        }
+        i += 1;
+    }
+    Verdict::Passed
+}
+
+// Check 31: the first position whose entry is not in form, whatever the blocks are.
+fn check_frame(frame: &[u8], count: usize) -> Verdict
+    requires { ⌜ count ≤ 64 ⌝ }
+    requires { ⌜ length (now frame) ≡ 56 * count ⌝ }
+    ensures { λ r. ⌜ ((blocks : List Block) → length blocks ≡ count → r ≡ frameForm 0 blocks (now (frame .entry))) ⌝ }
+{
+    let mut i = 0;
+    while i < count {
+        let at = 56 * i;
+        let end = at + 56;
+        if !layout::entry::entry_bytes(&frame[at..end]) {
+            return Verdict::Failed(31, Place::Position((i + 1) as u8));
+        }
+        i += 1;
+    }
+    Verdict::Passed
+}
+
+// Every check of the scan below the table's, from the top down.
+pub fn verify(
+    image: &[u8],
+    slots: &[u8; 64],
+    positions: &[u8; 65],
+    count: usize,
+    state: &[u8],
+    frame: &[u8],
+    report: &[u8],
+    journal: &[u8],
+) -> Verdict
+    requires { ⌜ Accepted (now image) count (now slots) (now positions) ⌝ }
+    ensures { λ r. ⌜ r ≡ verifyOf (blocksOf (now (image .entry))) (now (state .entry)) (now (frame .entry)) (now (report .entry)) (now (journal .entry)) ⌝ }
+{
+    if state.len() != 32 * count {
+        return Verdict::Failed(20, Place::Header);
+    }
+    let sound = check_state(image, slots, positions, count, state);
+    let Verdict::Passed = sound else {
+        return sound;
+    };
+    if frame.len() != 56 * count {
+        return Verdict::Failed(30, Place::Header);
+    }
+    let form = check_frame(frame, count);
+    let Verdict::Passed = form else {
+        return form;
+    };
+    if report.len() != 12 * count {
+        return Verdict::Failed(40, Place::Header);
+    }
+    if journal.len() < 16 * count {
+        return Verdict::Failed(41, Place::Header);
+    }
+    Verdict::Passed
+}

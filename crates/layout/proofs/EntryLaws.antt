@@ -1,0 +1,276 @@
+-- Frame entries as bytes, and back: each undoes the other, and what is read fits its bytes. For the engine, which reads entries from the frame,
+-- and for programs that build frames.
+use Prim.Native.Nat.{ℕ, suc, _+_, _<_, _≤_}
+use mathlib.Core.Path.{_≡_, refl, ap, sym, _∙_}
+use mathlib.Core.Bool.{Bool, true, _&&_}
+use mathlib.Core.List.{List, [], _∷_, _++_, append-assoc, append-nil}
+use native.Mathlib.Omega.{arith}
+use lib.Dec.{eqb, ltb}
+use lib.ListN.{length, getD, take, drop, drop-of-length-le, take-append-drop, length-append}
+use lib.Seq.{length-take-le, take-at, drop-at, drop-drop}
+use borrow.Author.Tests.{ltb-true, eqb-true, lt-ltb}
+use Rattle.words.specs.Word.{number, bytes, numberAt}
+use Rattle.words.proofs.WordLaws.{Bytes, number-of-bytes}
+use Rattle.block.specs.Entry.{entryFits}
+use Rattle.block.specs.declared.entry.Piece.{Piece}
+use Rattle.block.specs.declared.entry.Entry.{Entry}
+use Rattle.layout.specs.Buffer.{byteAt, put, jobWidth, All, nil, cons}
+use Rattle.layout.specs.EntryLayout.{encodePiece, decodePiece, encodePieces, inputsByte, encodeEntry, decodeEntry, entryForm, entryBytes, PieceFits, EntryFits}
+use Rattle.layout.proofs.BitLaws.{inputs-bound, inputs-trip, inputs-back}
+use Rattle.layout.proofs.BufferLaws.{fill-whole}
+use Rattle.layout.proofs.FieldLaws.{field-bound, field-back, byte-back, byte, field, joined-bytes, Joined, none, both-left, both-right, both-join}
+
+-- four pieces read back
+piece-trip : (p : Piece) → PieceFits p → _≡_ {A = Piece} (record { reply = p .reply; code = number (bytes 2 (p .code)); clock = number (bytes 4 (p .clock)) }) p
+piece-trip p h =
+    λ i. record { reply = p .reply; code = number-of-bytes 2 (p .code) (h .code) i; clock = number-of-bytes 4 (p .clock) (h .clock) i }
+
+pieces-trip : (ps : List Piece) → length ps ≡ 4 → All PieceFits ps
+    → decodePiece (encodePieces ps) 0 ∷ decodePiece (encodePieces ps) 8 ∷ decodePiece (encodePieces ps) 16 ∷ decodePiece (encodePieces ps) 24 ∷ [] ≡ ps
+unfolding encodePieces bytes
+pieces-trip ps l nil = absurd (omega arith)
+pieces-trip ps l (cons h nil) = absurd (omega arith)
+pieces-trip ps l (cons h (cons i nil)) = absurd (omega arith)
+pieces-trip ps l (cons h (cons i (cons j nil))) = absurd (omega arith)
+pieces-trip ps l (cons {x = p} h (cons {x = q} i (cons {x = r} j (cons {x = s} k nil)))) =
+    λ t. piece-trip p h t ∷ piece-trip q i t ∷ piece-trip r j t ∷ piece-trip s k t ∷ []
+pieces-trip ps l (cons h (cons i (cons j (cons k (cons m a))))) = absurd (omega arith)
+
+pub decode-encode : (e : Entry) → EntryFits e → decodeEntry (encodeEntry e) ≡ e
+unfolding encodeEntry decodeEntry bytes
+decode-encode e h =
+    λ i. record {
+      inputs = inputs-trip (e .inputs) i;
+      count = e .count;
+      «abort_reply» = e .«abort_reply»;
+      «reset_reply» = e .«reset_reply»;
+      «abort_code» = number-of-bytes 2 (e .«abort_code») (h .abortCode) i;
+      job = number-of-bytes jobWidth (e .job) (h .job) i;
+      limit = number-of-bytes 4 (e .limit) (h .limit) i;
+      timeout = number-of-bytes 4 (e .timeout) (h .timeout) i;
+      clock = number-of-bytes 4 (e .clock) (h .clock) i;
+      pieces = pieces-trip (e .pieces) (h .four) (h .pieces) i;
+    }
+
+-- what the form of the bytes says
+pub record FormBytes (s : List ℕ) : Type 0 where
+  pub inputs : byteAt s 0 < 4
+  pub six : byteAt s 6 ≡ 0
+  pub seven : byteAt s 7 ≡ 0
+  pub first : byteAt s 25 ≡ 0
+  pub second : byteAt s 33 ≡ 0
+  pub third : byteAt s 41 ≡ 0
+  pub fourth : byteAt s 49 ≡ 0
+
+pub form-bytes : (s : List ℕ) → entryForm s ≡ true → FormBytes s
+unfolding entryForm
+form-bytes s h =
+    let z : ℕ → Bool = λ i. eqb (byteAt s i) 0 in
+    let t0 = ltb (byteAt s 0) 4 in
+    let t6 = t0 && z 6 in
+    let t7 = t6 && z 7 in
+    let t25 = t7 && z 25 in
+    let t33 = t25 && z 33 in
+    let t41 = t33 && z 41 in
+    let h41 : t41 ≡ true = both-left t41 (z 49) h in
+    let h33 : t33 ≡ true = both-left t33 (z 41) h41 in
+    let h25 : t25 ≡ true = both-left t25 (z 33) h33 in
+    let h7 : t7 ≡ true = both-left t7 (z 25) h25 in
+    let h6 : t6 ≡ true = both-left t6 (z 7) h7 in
+    record {
+      inputs = ltb-true (byteAt s 0) 4 (both-left t0 (z 6) h6);
+      six = eqb-true (byteAt s 6) 0 (both-right t0 (z 6) h6);
+      seven = eqb-true (byteAt s 7) 0 (both-right t6 (z 7) h7);
+      first = eqb-true (byteAt s 25) 0 (both-right t7 (z 25) h25);
+      second = eqb-true (byteAt s 33) 0 (both-right t25 (z 33) h33);
+      third = eqb-true (byteAt s 41) 0 (both-right t33 (z 41) h41);
+      fourth = eqb-true (byteAt s 49) 0 (both-right t41 (z 49) h);
+    }
+
+-- a piece written back, and the rest
+piece-back : (i : ℕ) (s rest : List ℕ) → Bytes s → i + 8 ≤ length s → byteAt s (i + 1) ≡ 0 → rest ≡ drop (i + 8) s
+    → encodePiece (decodePiece s i) ++ rest ≡ drop i s
+piece-back i s rest b h z e =
+    let e₁ : i + 1 ≡ suc i = omega arith in
+    let e₂ : suc (suc i) ≡ i + 2 = omega arith in
+    let e₄ : i + 2 + 2 ≡ i + 4 = omega arith in
+    let e₈ : i + 4 + 4 ≡ i + 8 = omega arith in
+    let code : List ℕ = bytes 2 (numberAt 2 s (i + 2)) in
+    let clock : List ℕ = bytes 4 (numberAt 4 s (i + 4)) in
+    let two : clock ++ rest ≡ drop (i + 4) s = field-back 4 (i + 4) s rest b (omega arith) (rw e₈ e) in
+    let three : code ++ clock ++ rest ≡ drop (i + 2) s =
+    append-assoc code clock rest ∙ field-back 2 (i + 2) s (clock ++ rest) b (omega arith) (rw e₄ two) in
+    byte-back i (byteAt s i) s _ (omega arith) refl (byte-back (suc i) 0 s _ (omega arith) (sym (rw e₁ at z)) (rw e₂ three))
+
+pub encode-decode : (s : List ℕ) → length s ≡ 56 → Bytes s → entryForm s ≡ true → encodeEntry (decodeEntry s) ≡ s
+unfolding encodeEntry decodeEntry encodePieces
+encode-decode s l b h =
+    let f = form-bytes s h in
+    byte-back 0 _ s _ (omega arith) (inputs-back (byteAt s 0) (f .inputs))
+    (byte-back 1 _ s _ (omega arith) refl
+    (byte-back 2 _ s _ (omega arith) refl
+    (byte-back 3 _ s _ (omega arith) refl
+    (field-back 2 4 s _ b (omega arith)
+    (byte-back 6 _ s _ (omega arith) (sym (f .six))
+    (byte-back 7 _ s _ (omega arith) (sym (f .seven))
+    (field-back jobWidth 8 s _ b (omega arith)
+    (field-back 4 12 s _ b (omega arith)
+    (field-back 4 16 s _ b (omega arith)
+    (field-back 4 20 s _ b (omega arith)
+    (piece-back 24 s _ b (omega arith) (f .first)
+    (piece-back 32 s _ b (omega arith) (f .second)
+    (piece-back 40 s _ b (omega arith) (f .third)
+    (piece-back 48 s [] b (omega arith) (f .fourth) (sym (drop-of-length-le s {i = 56} (omega arith)))))))))))))))))
+
+-- what is read fits
+piece-fits : (i : ℕ) (s : List ℕ) → Bytes s → PieceFits (decodePiece s i)
+piece-fits i s b = record { reply = b i; code = field-bound 2 (i + 2) s b; clock = field-bound 4 (i + 4) s b }
+
+pub decode-fits : (s : List ℕ) → Bytes s → EntryFits (decodeEntry s)
+unfolding decodeEntry
+decode-fits s b =
+    record {
+      count = b 1;
+      abortReply = b 2;
+      resetReply = b 3;
+      abortCode = field-bound 2 4 s b;
+      job = field-bound jobWidth 8 s b;
+      limit = field-bound 4 12 s b;
+      timeout = field-bound 4 16 s b;
+      clock = field-bound 4 20 s b;
+      four = refl;
+      pieces = cons (piece-fits 24 s b) (cons (piece-fits 32 s b) (cons (piece-fits 40 s b) (cons (piece-fits 48 s b) nil)));
+    }
+
+-- what is written: 56 bytes, in form
+pieces-length : (ps : List Piece) → length ps ≡ 4 → length (encodePieces ps) ≡ 32
+unfolding encodePieces bytes
+pieces-length [] l = absurd (omega arith)
+pieces-length (p ∷ []) l = absurd (omega arith)
+pieces-length (p ∷ q ∷ []) l = absurd (omega arith)
+pieces-length (p ∷ q ∷ r ∷ []) l = absurd (omega arith)
+pieces-length (p ∷ q ∷ r ∷ s ∷ []) l = refl
+pieces-length (p ∷ q ∷ r ∷ s ∷ t ∷ ps) l = absurd (omega arith)
+
+pub encode-length : (e : Entry) → length (e .pieces) ≡ 4 → length (encodeEntry e) ≡ 56
+unfolding encodeEntry bytes
+encode-length e l = omega (arith, pieces-length (e .pieces) l)
+
+pieces-joined : {ps : List Piece} → All PieceFits ps → Joined (encodePieces ps)
+unfolding encodePieces
+pieces-joined nil = none
+pieces-joined (cons {x = p} {xs = ps} h a) =
+    rw (append-assoc (bytes 2 (p .code)) (bytes 4 (p .clock)) (encodePieces ps))
+    (byte (p .reply) (h .reply) (byte 0 (omega arith) (field 2 (p .code) (field 4 (p .clock) (pieces-joined a)))))
+
+pub encode-bytes : (e : Entry) → EntryFits e → Bytes (encodeEntry e)
+unfolding encodeEntry
+encode-bytes e h =
+    joined-bytes
+    (byte (inputsByte (e .inputs)) (omega (arith, inputs-bound (e .inputs)))
+    (byte (e .count) (h .count)
+    (byte (e .«abort_reply») (h .abortReply)
+    (byte (e .«reset_reply») (h .resetReply)
+    (field 2 (e .«abort_code»)
+    (byte 0 (omega arith)
+    (byte 0 (omega arith)
+    (field jobWidth (e .job)
+    (field 4 (e .limit)
+    (field 4 (e .timeout)
+    (field 4 (e .clock)
+    (pieces-joined (h .pieces)))))))))))))
+
+-- the zero byte of each of four pieces
+pieces-form : (ps : List Piece) → length ps ≡ 4
+    → (byteAt (encodePieces ps) 1 ≡ 0) × (byteAt (encodePieces ps) 9 ≡ 0) × (byteAt (encodePieces ps) 17 ≡ 0) × (byteAt (encodePieces ps) 25 ≡ 0)
+unfolding encodePieces bytes
+pieces-form [] l = absurd (omega arith)
+pieces-form (p ∷ []) l = absurd (omega arith)
+pieces-form (p ∷ q ∷ []) l = absurd (omega arith)
+pieces-form (p ∷ q ∷ r ∷ []) l = absurd (omega arith)
+pieces-form (p ∷ q ∷ r ∷ s ∷ []) l = (refl, refl, refl, refl)
+pieces-form (p ∷ q ∷ r ∷ s ∷ t ∷ ps) l = absurd (omega arith)
+
+pub encode-form : (e : Entry) → length (e .pieces) ≡ 4 → entryForm (encodeEntry e) ≡ true
+unfolding entryForm encodeEntry bytes
+encode-form e l =
+    let z = pieces-form (e .pieces) l in
+    rw (lt-ltb (inputsByte (e .inputs)) 4 (inputs-bound (e .inputs)), z .0, z .1, z .2, z .3)
+
+-- four pieces put one by one
+pieces-parts : (d : Piece) (ps : List Piece) → length ps ≡ 4
+    → encodePiece (getD ps 0 d) ++ (encodePiece (getD ps 1 d) ++ (encodePiece (getD ps 2 d) ++ (encodePiece (getD ps 3 d) ++ []))) ≡ encodePieces ps
+unfolding encodePieces
+pieces-parts d [] l = absurd (omega arith)
+pieces-parts d (p ∷ []) l = absurd (omega arith)
+pieces-parts d (p ∷ q ∷ []) l = absurd (omega arith)
+pieces-parts d (p ∷ q ∷ r ∷ []) l = absurd (omega arith)
+pieces-parts d (p ∷ q ∷ r ∷ s ∷ []) l = refl
+pieces-parts d (p ∷ q ∷ r ∷ s ∷ t ∷ ps) l = absurd (omega arith)
+
+piece-length : (p : Piece) → length (encodePiece p) ≡ 8
+unfolding bytes
+piece-length p = refl
+
+grown : (n : ℕ) (l : List ℕ) (p : Piece) → length l ≡ n → length (l ++ encodePiece p) ≡ n + 8
+grown n l p h = length-append l (encodePiece p) ∙ omega (arith, piece-length p)
+
+regroup : (h a b c d x : List ℕ) → h ++ a ++ b ++ c ++ d ++ x ≡ h ++ (a ++ (b ++ (c ++ (d ++ []))) ++ x)
+regroup h a b c d x = simp (append-assoc, append-nil)
+
+pub pieces-put : (z : Piece) (ps : List Piece) (s s₁ s₂ s₃ s₄ : List ℕ) → length ps ≡ 4 → 56 ≤ length s
+    → s₁ ≡ put 24 (encodePiece (getD ps 0 z)) s
+    → s₂ ≡ put 32 (encodePiece (getD ps 1 z)) s₁
+    → s₃ ≡ put 40 (encodePiece (getD ps 2 z)) s₂
+    → s₄ ≡ put 48 (encodePiece (getD ps 3 z)) s₃
+    → s₄ ≡ take 24 s ++ (encodePieces ps ++ drop 56 s)
+pieces-put z ps s s₁ s₂ s₃ s₄ l f e₁ e₂ e₃ e₄ =
+    let p : ℕ → Piece = λ i. getD ps i z in
+    let a : List ℕ = encodePiece (p 0) in
+    let b : List ℕ = encodePiece (p 1) in
+    let c : List ℕ = encodePiece (p 2) in
+    let d : List ℕ = encodePiece (p 3) in
+    let h : List ℕ = take 24 s in
+    let l₀ : length h ≡ 24 = length-take-le 24 s (omega arith) in
+    let l₁ : length (h ++ a) ≡ 32 = grown 24 h (p 0) l₀ in
+    let l₂ : length (h ++ a ++ b) ≡ 40 = grown 32 (h ++ a) (p 1) l₁ in
+    let l₃ : length (h ++ a ++ b ++ c) ≡ 48 = grown 40 (h ++ a ++ b) (p 2) l₂ in
+    let g₁ = fill-whole 24 8 h a s s s₁ l₀ (piece-length (p 0)) (sym (take-append-drop 24 s)) e₁ in
+    let g₂ = fill-whole 32 8 (h ++ a) b s s₁ s₂ l₁ (piece-length (p 1)) g₁ e₂ in
+    let g₃ = fill-whole 40 8 (h ++ a ++ b) c s s₂ s₃ l₂ (piece-length (p 2)) g₂ e₃ in
+    let g₄ = fill-whole 48 8 (h ++ a ++ b ++ c) d s s₃ s₄ l₃ (piece-length (p 3)) g₃ e₄ in
+    g₄ ∙ regroup h a b c d (drop 56 s) ∙ ap (λ (x : List ℕ). h ++ (x ++ drop 56 s)) (pieces-parts z ps l)
+
+-- the head, and the pieces put after it
+head-length : (e : Entry) → length (take 24 (encodeEntry e)) ≡ 24
+unfolding encodeEntry bytes
+head-length e = refl
+
+after-head : (e : Entry) → drop 24 (encodeEntry e) ≡ encodePieces (e .pieces)
+unfolding encodeEntry bytes
+after-head e = refl
+
+pub entry-put : (e : Entry) (s s₁ s₂ : List ℕ) → s₁ ≡ take 24 (encodeEntry e) ++ drop 24 s → s₂ ≡ take 24 s₁ ++ (encodePieces (e .pieces) ++ drop 56 s₁)
+    → s₂ ≡ encodeEntry e ++ drop 56 s
+entry-put e s s₁ s₂ e₁ e₂ =
+    let h : List ℕ = take 24 (encodeEntry e) in
+    let front : take 24 s₁ ≡ h = ap (take 24) e₁ ∙ take-at h (drop 24 s) 24 (head-length e) in
+    let back : drop 56 s₁ ≡ drop 56 s =
+    sym (drop-drop 32 24 s₁) ∙ ap (drop 32) (ap (drop 24) e₁ ∙ drop-at h (drop 24 s) 24 (head-length e)) ∙ drop-drop 32 24 s in
+    let whole : h ++ encodePieces (e .pieces) ≡ encodeEntry e =
+    ap (λ (x : List ℕ). h ++ x) (sym (after-head e)) ∙ take-append-drop 24 (encodeEntry e) in
+    e₂ ∙ rw (front, back) (sym (append-assoc h (encodePieces (e .pieces)) (drop 56 s)) ∙ ap (λ (x : List ℕ). x ++ drop 56 s) whole)
+
+-- check 31 taken apart, and what passes it: an entry as the paper says that fits its bytes
+pub entry-form : (s : List ℕ) → entryBytes s ≡ true → entryForm s ≡ true
+unfolding entryBytes
+entry-form s h = both-left (entryForm s) (entryFits (decodeEntry s)) h
+
+pub entry-fits : (s : List ℕ) → entryBytes s ≡ true → entryFits (decodeEntry s) ≡ true
+unfolding entryBytes
+entry-fits s h = both-right (entryForm s) (entryFits (decodeEntry s)) h
+
+pub entry-encode : (e : Entry) → EntryFits e → entryFits e ≡ true → entryBytes (encodeEntry e) ≡ true
+unfolding entryBytes
+entry-encode e f h =
+    both-join (entryForm (encodeEntry e)) (entryFits (decodeEntry (encodeEntry e))) (encode-form e (f .four)) (ap entryFits (decode-encode e f) ∙ h)

@@ -1,0 +1,136 @@
+-- Journal events: each read back, a journal that begins with encoded events, events put after those that are there, and the events of one position.
+-- For the engine's journal and for the journal of a list of scans.
+use Prim.Native.Nat.{ℕ, zero, suc, _+_, _*_, _≤_, _<_}
+use mathlib.Core.Path.{_≡_, refl, ap, _∙_}
+use mathlib.Core.Bool.{Bool, true, false, cond}
+use mathlib.Core.List.{List, [], _∷_, _++_, append-assoc, append-nil}
+use native.Mathlib.Omega.{arith}
+use native.Mathlib.Nat.{add-suc, add-zero}
+use lib.Dec.{eqb}
+use lib.ListN.{length, take, drop, length-append}
+use lib.Seq.{drop-drop, take-at, drop-at}
+use borrow.Author.Tests.{eq-eqb, ne-eqb}
+use Rattle.words.specs.Word.{bytes}
+use Rattle.words.proofs.WordLaws.{Bytes, number-of-bytes}
+use Rattle.block.specs.declared.event.Event.{Event}
+use Rattle.layout.specs.Buffer.{part, put, jobWidth, All, nil, cons}
+use Rattle.layout.specs.EventLayout.{Posted, encodeEvent, decodeEvent, encodeEvents, encodePosted, posted, decodeEvents, eventsAt, EventFits}
+use Rattle.layout.proofs.BufferLaws.{drop-put-same, window-before}
+use Rattle.layout.proofs.FieldLaws.{byte, field, joined-bytes, last-field}
+
+pub event-length : (k : ℕ) (v : Event) → length (encodeEvent k v) ≡ 8
+unfolding encodeEvent bytes
+event-length k v = refl
+
+pub event-bytes : (k : ℕ) (v : Event) → k < 256 → v .kind < 256 → Bytes (encodeEvent k v)
+unfolding encodeEvent
+event-bytes k v h n = joined-bytes (byte (v .kind) n (byte k h (field 2 (v .code) (last-field jobWidth (v .job)))))
+
+pub decode-encode : (k : ℕ) (v : Event) → EventFits v → decodeEvent (encodeEvent k v) ≡ record { position = k; event = v }
+unfolding decodeEvent encodeEvent bytes
+decode-encode k v h =
+    λ i. record {
+      position = k;
+      event = record { kind = v .kind; code = number-of-bytes 2 (v .code) (h .code) i; job = number-of-bytes jobWidth (v .job) (h .job) i };
+    }
+
+-- lists of events: their lengths, and the events of a block as events of its position
+pub posted-length : (k : ℕ) (vs : List Event) → length (posted k vs) ≡ length vs
+unfolding posted
+posted-length k [] = refl
+posted-length k (v ∷ vs) = ap suc (posted-length k vs)
+
+pub posted-events : (k : ℕ) (vs : List Event) → encodeEvents k vs ≡ encodePosted (posted k vs)
+unfolding posted encodeEvents encodePosted
+posted-events k [] = refl
+posted-events k (v ∷ vs) = ap {B = List ℕ} (λ l. encodeEvent k v ++ l) (posted-events k vs)
+
+pub posted-fits : (k : ℕ) {vs : List Event} → All EventFits vs → All (λ p. EventFits (p .event)) (posted k vs)
+unfolding posted
+posted-fits k nil = nil
+posted-fits k (cons h a) = cons h (posted-fits k a)
+
+pub encode-append : (ps qs : List Posted) → encodePosted (ps ++ qs) ≡ encodePosted ps ++ encodePosted qs
+unfolding encodePosted
+encode-append [] qs = refl
+encode-append (p ∷ ps) qs = rw (encode-append ps qs, append-assoc)
+
+pub encode-length : (ps : List Posted) → length (encodePosted ps) ≡ 8 * length ps
+unfolding encodePosted
+encode-length [] = refl
+encode-length (p ∷ ps) = rw length-append (omega (arith, event-length (p .position) (p .event), encode-length ps))
+
+pub events-length : (k : ℕ) (vs : List Event) → length (encodeEvents k vs) ≡ 8 * length vs
+events-length k vs = rw posted-events (encode-length (posted k vs) ∙ ap (λ (n : ℕ). 8 * n) (posted-length k vs))
+
+-- the first n events, and m more after them
+pub decode-split : (n m : ℕ) (s : List ℕ) → decodeEvents (n + m) s ≡ decodeEvents n s ++ decodeEvents m (drop (8 * n) s)
+unfolding decodeEvents
+decode-split n zero s = rw (add-zero, append-nil)
+decode-split n (suc m) s =
+    let e : n + suc m ≡ suc (n + m) = add-suc n m in
+    let d : 8 * (n + m) ≡ 8 * n + 8 * m = omega arith in
+    rw (e, decode-split n m s, d, ← drop-drop (8 * m) (8 * n) s, append-assoc)
+
+-- the first event, and m more
+one-event : (s : List ℕ) → decodeEvents 1 s ≡ decodeEvent (take 8 s) ∷ []
+unfolding decodeEvents
+one-event s = refl
+
+pub decode-first : (m : ℕ) (s : List ℕ) → decodeEvents (suc m) s ≡ decodeEvent (take 8 s) ∷ decodeEvents m (drop 8 s)
+decode-first m s =
+    let e : suc m ≡ 1 + m = omega arith in
+    rw (e, decode-split 1 m s, one-event s)
+
+-- a journal that begins with encoded events
+first-posted : (p : Posted) (ps : List Posted) (rest : List ℕ) → encodePosted (p ∷ ps) ++ rest ≡ encodeEvent (p .position) (p .event) ++ (encodePosted ps ++ rest)
+unfolding encodePosted
+first-posted p ps rest = append-assoc (encodeEvent (p .position) (p .event)) (encodePosted ps) rest
+
+pub decode-posted : (rest : List ℕ) {ps : List Posted} → All (λ p. EventFits (p .event)) ps → decodeEvents (length ps) (encodePosted ps ++ rest) ≡ ps
+unfolding decodeEvents
+decode-posted rest nil = refl
+decode-posted rest (cons {x = p} {xs = ps} h a) =
+    let e : List ℕ = encodeEvent (p .position) (p .event) in
+    let r : List ℕ = encodePosted ps ++ rest in
+    let l : length e ≡ 8 = event-length (p .position) (p .event) in
+    ap (λ (s : List ℕ). decodeEvents (suc (length ps)) s) (first-posted p ps rest)
+    ∙ decode-first (length ps) (e ++ r)
+    ∙ rw (take-at e r 8 l, drop-at e r 8 l, decode-encode (p .position) (p .event) h, decode-posted rest a)
+
+-- events put after the first n, of a journal with room for them
+pub decode-before : (n at : ℕ) (v s : List ℕ) → at + length v ≤ length s → 8 * n ≤ at → decodeEvents n (put at v s) ≡ decodeEvents n s
+unfolding decodeEvents
+decode-before zero at v s f h = refl
+decode-before (suc n) at v s f h =
+    let w : part 8 n (put at v s) ≡ part 8 n s = window-before at v s f (8 * n) 8 (omega arith) in
+    rw (w, decode-before n at v s f (omega arith))
+
+pub decode-put : (n k : ℕ) (s : List ℕ) {vs : List Event} → All EventFits vs → 8 * n + 8 * length vs ≤ length s
+    → decodeEvents (n + length vs) (put (8 * n) (encodeEvents k vs) s) ≡ decodeEvents n s ++ posted k vs
+decode-put n k s {vs} a f =
+    let v : List ℕ = encodeEvents k vs in
+    let g : 8 * n + length v ≤ length s = omega (arith, events-length k vs) in
+    let back : decodeEvents (length vs) (v ++ drop (8 * n + length v) s) ≡ posted k vs =
+    rw (posted-events k vs, ← posted-length k vs) (decode-posted (drop (8 * n + length (encodePosted (posted k vs))) s) (posted-fits k a)) in
+    rw (decode-split, decode-before n (8 * n) v s g (omega arith), drop-put-same (8 * n) v s g, back)
+
+-- the events of one position
+keep : (b : Bool) (v : Event) (l m : List Event) → cond b (v ∷ (l ++ m)) (l ++ m) ≡ cond b (v ∷ l) l ++ m
+keep true v l m = refl
+keep false v l m = refl
+
+pub at-append : (k : ℕ) (ps qs : List Posted) → eventsAt k (ps ++ qs) ≡ eventsAt k ps ++ eventsAt k qs
+unfolding eventsAt
+at-append k [] qs = refl
+at-append k (p ∷ ps) qs = rw (at-append k ps qs) (keep (eqb (p .position) k) (p .event) (eventsAt k ps) (eventsAt k qs))
+
+pub at-own : (k : ℕ) (vs : List Event) → eventsAt k (posted k vs) ≡ vs
+unfolding eventsAt posted
+at-own k [] = refl
+at-own k (v ∷ vs) = rw (eq-eqb k k refl, at-own k vs)
+
+pub at-other : (j k : ℕ) (vs : List Event) → (k ≡ j → ⊥) → eventsAt j (posted k vs) ≡ []
+unfolding eventsAt posted
+at-other j k [] h = refl
+at-other j k (v ∷ vs) h = rw (ne-eqb k j h, at-other j k vs h)

@@ -1,0 +1,136 @@
+-- State records as bytes, and back: each undoes the other, and what is read fits its bytes. For the engine, which keeps records in the state buffer.
+use Prim.Native.Nat.{ℕ, _<_, _≤_}
+use mathlib.Core.Path.{_≡_, refl, ap, sym, _∙_}
+use mathlib.Core.Bool.{true, _&&_}
+use mathlib.Core.List.{List}
+use native.Mathlib.Omega.{arith}
+use lib.Dec.{eqb, ltb, leb}
+use lib.ListN.{length, replicate}
+use borrow.Author.Tests.{ltb-true, leb-true, eqb-true, lt-ltb, le-leb}
+use Rattle.words.specs.Word.{number, bytes}
+use Rattle.words.proofs.WordLaws.{Bytes, number-of-bytes}
+use Rattle.block.specs.Record.{freshRecord}
+use Rattle.block.specs.Sound.{sound}
+use Rattle.block.specs.declared.record.Record.{Record}
+use Rattle.layout.specs.Buffer.{byteAt, jobWidth}
+use Rattle.layout.specs.RecordLayout.{bit, flagsByte, encodeRecord, decodeRecord, recordForm, soundBytes, RecordFits}
+use Rattle.layout.proofs.BitLaws.{bit-le, bit-trip, bit-back, flags-bound, flags-trip, flags-back}
+use Rattle.layout.proofs.FieldLaws.{field-bound, field-back, field-last, byte-back, byte, field, joined-bytes, last-field, both-left, both-right, both-join}
+
+pub encode-length : (r : Record) → length (encodeRecord r) ≡ 32
+unfolding encodeRecord bytes
+encode-length r = refl
+
+pub decode-encode : (r : Record) → RecordFits r → decodeRecord (encodeRecord r) ≡ r
+unfolding encodeRecord decodeRecord bytes
+decode-encode r h =
+    λ i. record {
+      step = r .step;
+      flags = flags-trip (r .flags) i;
+      request = bit-trip (r .request) i;
+      job = number-of-bytes jobWidth (r .job) (h .job) i;
+      code = number-of-bytes 2 (r .code) (h .code) i;
+      limit = number-of-bytes 4 (r .limit) (h .limit) i;
+      timeout = number-of-bytes 4 (r .timeout) (h .timeout) i;
+      timer = record { last = number-of-bytes 4 (r .timer .last) (h .last) i; elapsed = number-of-bytes 8 (r .timer .elapsed) (h .elapsed) i };
+    }
+
+-- what the form of the bytes says
+pub record FormBytes (s : List ℕ) : Type 0 where
+  pub flags : byteAt s 1 < 16
+  pub request : byteAt s 2 ≤ 1
+  pub three : byteAt s 3 ≡ 0
+  pub ten : byteAt s 10 ≡ 0
+  pub eleven : byteAt s 11 ≡ 0
+
+pub form-bytes : (s : List ℕ) → recordForm s ≡ true → FormBytes s
+unfolding recordForm
+form-bytes s h =
+    let f = ltb (byteAt s 1) 16 in
+    let q = f && leb (byteAt s 2) 1 in
+    let t = q && eqb (byteAt s 3) 0 in
+    let u = t && eqb (byteAt s 10) 0 in
+    let hu : u ≡ true = both-left u (eqb (byteAt s 11) 0) h in
+    let ht : t ≡ true = both-left t (eqb (byteAt s 10) 0) hu in
+    let hq : q ≡ true = both-left q (eqb (byteAt s 3) 0) ht in
+    record {
+      flags = ltb-true (byteAt s 1) 16 (both-left f (leb (byteAt s 2) 1) hq);
+      request = leb-true (byteAt s 2) 1 (both-right f (leb (byteAt s 2) 1) hq);
+      three = eqb-true (byteAt s 3) 0 (both-right q (eqb (byteAt s 3) 0) ht);
+      ten = eqb-true (byteAt s 10) 0 (both-right t (eqb (byteAt s 10) 0) hu);
+      eleven = eqb-true (byteAt s 11) 0 (both-right u (eqb (byteAt s 11) 0) h);
+    }
+
+pub encode-decode : (s : List ℕ) → length s ≡ 32 → Bytes s → recordForm s ≡ true → encodeRecord (decodeRecord s) ≡ s
+unfolding encodeRecord decodeRecord
+encode-decode s l b h =
+    let f = form-bytes s h in
+    byte-back 0 _ s _ (omega arith) refl
+    (byte-back 1 _ s _ (omega arith) (flags-back (byteAt s 1) (f .flags))
+    (byte-back 2 _ s _ (omega arith) (bit-back (byteAt s 2) (f .request))
+    (byte-back 3 _ s _ (omega arith) (sym (f .three))
+    (field-back jobWidth 4 s _ b (omega arith)
+    (field-back 2 8 s _ b (omega arith)
+    (byte-back 10 _ s _ (omega arith) (sym (f .ten))
+    (byte-back 11 _ s _ (omega arith) (sym (f .eleven))
+    (field-back 4 12 s _ b (omega arith)
+    (field-back 4 16 s _ b (omega arith)
+    (field-back 4 20 s _ b (omega arith)
+    (field-last 8 24 s b l)))))))))))
+
+pub decode-fits : (s : List ℕ) → Bytes s → RecordFits (decodeRecord s)
+unfolding decodeRecord
+decode-fits s b =
+    record {
+      step = b 0;
+      job = field-bound jobWidth 4 s b;
+      code = field-bound 2 8 s b;
+      limit = field-bound 4 12 s b;
+      timeout = field-bound 4 16 s b;
+      last = field-bound 4 20 s b;
+      elapsed = field-bound 8 24 s b;
+    }
+
+pub encode-bytes : (r : Record) → RecordFits r → Bytes (encodeRecord r)
+unfolding encodeRecord
+encode-bytes r h =
+    joined-bytes
+    (byte (r .step) (h .step)
+    (byte (flagsByte (r .flags)) (omega (arith, flags-bound (r .flags)))
+    (byte (bit (r .request)) (omega (arith, bit-le (r .request)))
+    (byte 0 (omega arith)
+    (field jobWidth (r .job)
+    (field 2 (r .code)
+    (byte 0 (omega arith)
+    (byte 0 (omega arith)
+    (field 4 (r .limit)
+    (field 4 (r .timeout)
+    (field 4 (r .timer .last)
+    (last-field 8 (r .timer .elapsed)))))))))))))
+
+-- every record is written in form
+pub encode-form : (r : Record) → recordForm (encodeRecord r) ≡ true
+unfolding recordForm encodeRecord bytes
+encode-form r = rw (lt-ltb (flagsByte (r .flags)) 16 (flags-bound (r .flags)), le-leb (bit (r .request)) 1 (bit-le (r .request)))
+
+-- "Fresh is all zero."
+pub encode-fresh : encodeRecord freshRecord ≡ replicate 32 0
+unfolding encodeRecord bytes
+encode-fresh = refl
+
+pub decode-fresh : decodeRecord (replicate 32 0) ≡ freshRecord
+unfolding decodeRecord number
+decode-fresh = refl
+
+-- check 21 taken apart, and what passes it: a sound record that fits its bytes
+pub sound-form : (k : ℕ) (s : List ℕ) → soundBytes k s ≡ true → recordForm s ≡ true
+unfolding soundBytes
+sound-form k s h = both-left (recordForm s) (sound k (decodeRecord s)) h
+
+pub sound-record : (k : ℕ) (s : List ℕ) → soundBytes k s ≡ true → sound k (decodeRecord s) ≡ true
+unfolding soundBytes
+sound-record k s h = both-right (recordForm s) (sound k (decodeRecord s)) h
+
+pub sound-encode : (k : ℕ) (r : Record) → RecordFits r → sound k r ≡ true → soundBytes k (encodeRecord r) ≡ true
+unfolding soundBytes
+sound-encode k r f h = both-join (recordForm (encodeRecord r)) (sound k (decodeRecord (encodeRecord r))) (encode-form r) (ap (sound k) (decode-encode r f) ∙ h)

@@ -1,0 +1,20 @@
+-- `entry::entry_encode` meets its contract: nothing of the array is left past 56 bytes.
+use native.Mathlib.Omega.{arith}
+use mathlib.Core.Path.{_∙_}
+use mathlib.Core.List.{append-nil}
+use Rattle.layout.specs.EntryLayout.{encodeEntry}
+use borrow.Author.Needs.{needs}
+use Rattle.layout.proofs.entry.entry_encode.Statement.{statement}
+use Rattle.layout.proofs.entry.entry_encode.Tie as tie
+
+slice-aggregate-write-entry : tie.Need-slice-aggregate-write-entry
+slice-aggregate-write-entry c = omega arith
+
+write-entry-requires : tie.Need-write-entry-requires
+write-entry-requires c κs = search needs
+
+returns : tie.Need-returns
+returns c = c .before .write-entry .ensures ∙ append-nil (encodeEntry (c .before .before .before .args .e))
+
+pub entry-encode-spec : {M : Type 1} → statement M
+entry-encode-spec = tie.close (tie.spec slice-aggregate-write-entry write-entry-requires returns)

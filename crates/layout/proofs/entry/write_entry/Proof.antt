@@ -1,0 +1,42 @@
+-- `entry::write_entry` meets its contract: the head copied to the front, the pieces put after it.
+use native.Mathlib.Omega.{arith}
+use Rattle.words.specs.Word.{bytes}
+use Rattle.layout.specs.EntryLayout.{encodeEntry}
+use Rattle.layout.proofs.EntryLaws.{entry-put}
+use borrow.Author.Needs.{needs}
+use Rattle.layout.proofs.entry.write_entry.Statement.{statement}
+use Rattle.layout.proofs.entry.write_entry.Tie as tie
+
+head-bytes-requires : tie.Need-head-bytes-requires
+head-bytes-requires c κs = search needs
+
+slice-aggregate-copy : tie.Need-slice-aggregate-copy
+slice-aggregate-copy c = omega arith
+
+copy-requires : tie.Need-copy-requires
+copy-requires c κs = search needs
+
+put-pieces-requires : tie.Need-put-pieces-requires
+put-pieces-requires c κs = search needs
+
+same-length : tie.Need-same-length
+same-length c = search needs
+
+returns : tie.Need-returns
+unfolding bytes encodeEntry
+returns c =
+    let a = c .before .before .before .before .before .before .before .before .before .before .before .before .args in
+    let e = c .before .before .before .before .before .before .before .before .before .before .head-bytes .ensures in
+    let copied = c .before .before .before .before .before .before .before .copy .ensures .1 in
+    entry-put (a .e) (a .out .now) _ _ (rw e at copied) (c .before .before .put-pieces .ensures)
+
+pub write-entry-spec : {M : Type 1} → statement M
+write-entry-spec =
+    tie.close
+    (tie.spec
+    head-bytes-requires
+    slice-aggregate-copy
+    copy-requires
+    put-pieces-requires
+    same-length
+    returns)

@@ -1,0 +1,56 @@
+-- `event::event_bytes` meets its contract: the array is the definition, written out.
+use native.Mathlib.Omega.{arith}
+use Rattle.words.specs.Word.{bytes}
+use Rattle.layout.specs.EventLayout.{encodeEvent}
+use mathlib.Core.List.{[], _∷_}
+use lib.ListN.{getD}
+use borrow.Author.Needs.{needs}
+use Rattle.layout.proofs.event.event_bytes.Statement.{statement}
+use Rattle.layout.proofs.event.event_bytes.Tie as tie
+
+u32-bytes-requires : tie.Need-u32-bytes-requires
+u32-bytes-requires c κs = search needs
+
+u16-bytes-requires : tie.Need-u16-bytes-requires
+u16-bytes-requires c κs = search needs
+
+array-read-t9 : tie.Need-array-read-t9
+array-read-t9 c = omega arith
+
+array-read-t12 : tie.Need-array-read-t12
+array-read-t12 c = omega arith
+
+array-read-t15 : tie.Need-array-read-t15
+array-read-t15 c = omega arith
+
+array-read-t18 : tie.Need-array-read-t18
+array-read-t18 c = omega arith
+
+array-read-t21 : tie.Need-array-read-t21
+array-read-t21 c = omega arith
+
+array-read-t24 : tie.Need-array-read-t24
+array-read-t24 c = omega arith
+
+returns : tie.Need-returns
+unfolding bytes encodeEvent
+returns c =
+    let a = c .before .before .args in
+    λ i.
+    let job = c .before .u32-bytes .ensures i in
+    let code = c .u16-bytes .ensures i in
+    a .v .kind ∷ a .position ∷ getD code 0 0 ∷ getD code 1 0 ∷ getD job 0 0 ∷ getD job 1 0 ∷ getD job 2 0 ∷ getD job 3 0 ∷ []
+
+pub event-bytes-spec : {M : Type 1} → statement M
+event-bytes-spec =
+    tie.close
+    (tie.spec
+    u32-bytes-requires
+    u16-bytes-requires
+    array-read-t9
+    array-read-t12
+    array-read-t15
+    array-read-t18
+    array-read-t21
+    array-read-t24
+    returns)

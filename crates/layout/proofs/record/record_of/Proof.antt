@@ -1,0 +1,69 @@
+-- `record::record_of` meets its contract, field by field.
+use native.Mathlib.Omega.{arith}
+use Rattle.layout.specs.Buffer.{byteAt}
+use Rattle.layout.specs.RecordLayout.{decodeRecord}
+use lib.Dec.{eqb}
+use borrow.Author.Needs.{needs}
+use Rattle.layout.proofs.record.record_of.Statement.{statement}
+use Rattle.layout.proofs.record.record_of.Tie as tie
+
+shared-slice-read-t3 : tie.Need-shared-slice-read-t3
+shared-slice-read-t3 c = omega arith
+
+shared-slice-read-flags-of : tie.Need-shared-slice-read-flags-of
+shared-slice-read-flags-of c = omega arith
+
+flags-of-requires : tie.Need-flags-of-requires
+flags-of-requires c κs = search needs
+
+shared-slice-read-t8 : tie.Need-shared-slice-read-t8
+shared-slice-read-t8 c = omega arith
+
+u32-at-requires : tie.Need-u32-at-requires
+u32-at-requires c κs = search needs
+
+u16-at-requires : tie.Need-u16-at-requires
+u16-at-requires c κs = search needs
+
+u32-at-requires-2 : tie.Need-u32-at-requires-2
+u32-at-requires-2 c κs = search needs
+
+u32-at-requires-3 : tie.Need-u32-at-requires-3
+u32-at-requires-3 c κs = search needs
+
+u32-at-requires-4 : tie.Need-u32-at-requires-4
+u32-at-requires-4 c κs = search needs
+
+u64-at-requires : tie.Need-u64-at-requires
+u64-at-requires c κs = search needs
+
+returns : tie.Need-returns
+unfolding decodeRecord
+returns c =
+    let s = c .before .before .before .before .before .before .before .before .before .before .before .args .s .now in
+    λ i. record {
+      step = byteAt s 0;
+      flags = c .before .before .before .before .before .before .before .flags-of .ensures i;
+      request = eqb (byteAt s 2) 1;
+      job = c .before .before .before .before .before .u32-at .ensures i;
+      code = c .before .before .before .before .u16-at .ensures i;
+      limit = c .before .before .before .u32-at2 .ensures i;
+      timeout = c .before .before .u32-at3 .ensures i;
+      timer = record { last = c .before .u32-at4 .ensures i; elapsed = c .u64-at .ensures i };
+    }
+
+pub record-of-spec : {M : Type 1} → statement M
+record-of-spec =
+    tie.close
+    (tie.spec
+    shared-slice-read-t3
+    shared-slice-read-flags-of
+    flags-of-requires
+    shared-slice-read-t8
+    u32-at-requires
+    u16-at-requires
+    u32-at-requires-2
+    u32-at-requires-3
+    u32-at-requires-4
+    u64-at-requires
+    returns)

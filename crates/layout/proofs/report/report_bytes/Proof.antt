@@ -1,0 +1,62 @@
+-- `report::report_bytes` meets its contract: the array is the definition, written out.
+use native.Mathlib.Omega.{arith}
+use Rattle.words.specs.Word.{bytes}
+use Rattle.layout.specs.ReportLayout.{encodeReport}
+use mathlib.Core.List.{[], _∷_}
+use lib.ListN.{getD}
+use borrow.Author.Needs.{needs}
+use Rattle.layout.proofs.report.report_bytes.Statement.{statement}
+use Rattle.layout.proofs.report.report_bytes.Tie as tie
+
+u32-bytes-requires : tie.Need-u32-bytes-requires
+u32-bytes-requires c κs = search needs
+
+u16-bytes-requires : tie.Need-u16-bytes-requires
+u16-bytes-requires c κs = search needs
+
+flags-byte-requires : tie.Need-flags-byte-requires
+flags-byte-requires c κs = search needs
+
+array-read-t10 : tie.Need-array-read-t10
+array-read-t10 c = omega arith
+
+array-read-t13 : tie.Need-array-read-t13
+array-read-t13 c = omega arith
+
+array-read-t16 : tie.Need-array-read-t16
+array-read-t16 c = omega arith
+
+array-read-t19 : tie.Need-array-read-t19
+array-read-t19 c = omega arith
+
+array-read-t22 : tie.Need-array-read-t22
+array-read-t22 c = omega arith
+
+array-read-t25 : tie.Need-array-read-t25
+array-read-t25 c = omega arith
+
+returns : tie.Need-returns
+unfolding bytes encodeReport
+returns c =
+    let a = c .before .before .before .before .args .a in
+    λ i.
+    let job = c .before .before .u32-bytes .ensures i in
+    let code = c .before .u16-bytes .ensures i in
+    c .flags-byte .ensures .0 i ∷ a .used ∷ a .passes ∷ a .next .step
+    ∷ getD code 0 0 ∷ getD code 1 0 ∷ 0 ∷ 0
+    ∷ getD job 0 0 ∷ getD job 1 0 ∷ getD job 2 0 ∷ getD job 3 0 ∷ []
+
+pub report-bytes-spec : {M : Type 1} → statement M
+report-bytes-spec =
+    tie.close
+    (tie.spec
+    u32-bytes-requires
+    u16-bytes-requires
+    flags-byte-requires
+    array-read-t10
+    array-read-t13
+    array-read-t16
+    array-read-t19
+    array-read-t22
+    array-read-t25
+    returns)

@@ -1,0 +1,40 @@
+-- Lengths by name, and entries of a buffer by their index: document 01, "State record, 32 bytes a position" and so on.
+use Prim.Native.Nat.{ℕ, _+_, _*_}
+use mathlib.Core.List.{List, [], _∷_, _++_}
+use lib.ListN.{length, take, drop, getD}
+
+-- "State record, 32 bytes a position"
+abbrev pub recordLength : ℕ
+recordLength = 32
+
+-- "Frame entry, 56 bytes a position"
+abbrev pub entryLength : ℕ
+entryLength = 56
+
+-- "Each block writes only its own twelve bytes of the report"
+abbrev pub reportLength : ℕ
+reportLength = 12
+
+-- "Journal event, 8 bytes"
+abbrev pub eventLength : ℕ
+eventLength = 8
+
+-- the bytes of a job in each of them
+abbrev pub jobWidth : ℕ
+jobWidth = 4
+
+abbrev pub byteAt : List ℕ → ℕ → ℕ
+byteAt s i = getD s i 0
+
+-- entry i, from 0, of a buffer whose entries have `size` bytes
+abbrev pub part : ℕ → ℕ → List ℕ → List ℕ
+part size i s = take size (drop (size * i) s)
+
+-- the buffer with the bytes v from a place on
+abbrev pub put : ℕ → List ℕ → List ℕ → List ℕ
+put at v s = take at s ++ (v ++ drop (at + length v) s)
+
+-- each element of a list
+pub data All {A : Type 0} (P : A → Type 0) : List A → Type 0 where
+  nil : All P []
+  cons : {x : A} {xs : List A} → P x → All P xs → All P (x ∷ xs)

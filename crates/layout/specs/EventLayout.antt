@@ -1,0 +1,50 @@
+-- Document 01, "Report and journal": journal events as 8 bytes each, and back.
+use Prim.Native.Nat.{ℕ, zero, suc, _+_, _<_, _^_}
+use mathlib.Core.Bool.{cond}
+use mathlib.Core.List.{List, [], _∷_, _++_}
+use lib.Dec.{eqb}
+use Rattle.words.specs.Word.{bytes, numberAt}
+use Rattle.layout.specs.Buffer.{byteAt, part, eventLength, jobWidth}
+use Rattle.block.specs.declared.event.Event.{Event}
+
+-- an event with the position of its block
+pub record Posted : Type 0 where
+  pub position : ℕ
+  pub event : Event
+
+-- "kind (1 start, 2 done, 3 failed, 4 aborted, 5 withdrawn), position, code (2; 0 unless failed), job (4)"
+unfoldable pub encodeEvent : ℕ → Event → List ℕ
+encodeEvent position v = (v .kind ∷ position ∷ []) ++ (bytes 2 (v .code) ++ bytes jobWidth (v .job))
+
+unfoldable pub decodeEvent : List ℕ → Posted
+decodeEvent s = record { position = byteAt s 1; event = record { kind = byteAt s 0; code = numberAt 2 s 2; job = numberAt jobWidth s 4 } }
+
+-- the events of a block, one after the other
+unfoldable pub encodeEvents : ℕ → List Event → List ℕ
+encodeEvents position [] = []
+encodeEvents position (v ∷ vs) = encodeEvent position v ++ encodeEvents position vs
+
+-- events of any positions, one after the other
+unfoldable pub encodePosted : List Posted → List ℕ
+encodePosted [] = []
+encodePosted (p ∷ ps) = encodeEvent (p .position) (p .event) ++ encodePosted ps
+
+-- the events of a block with its position
+unfoldable pub posted : ℕ → List Event → List Posted
+posted position [] = []
+posted position (v ∷ vs) = record { position = position; event = v } ∷ posted position vs
+
+-- the first n events of a journal
+unfoldable pub decodeEvents : ℕ → List ℕ → List Posted
+decodeEvents zero s = []
+decodeEvents (suc n) s = decodeEvents n s ++ (decodeEvent (part eventLength n s) ∷ [])
+
+-- "A block's entries are the events there with its position."
+unfoldable pub eventsAt : ℕ → List Posted → List Event
+eventsAt position [] = []
+eventsAt position (p ∷ ps) = cond (eqb (p .position) position) (p .event ∷ eventsAt position ps) (eventsAt position ps)
+
+-- an event whose numbers fit their bytes
+pub record EventFits (v : Event) : Type 0 where
+  pub code : v .code < 256 ^ 2
+  pub job : v .job < 256 ^ jobWidth

@@ -1,0 +1,68 @@
+-- Document 01, "State record": a record as 32 bytes, and back.
+use Prim.Native.Nat.{ℕ, _+_, _*_, _/_, _%_, _<_, _^_}
+use mathlib.Core.Bool.{Bool, cond, _&&_}
+use mathlib.Core.List.{List, [], _∷_, _++_}
+use lib.Dec.{eqb, ltb, leb}
+use Rattle.words.specs.Word.{bytes, numberAt}
+use Rattle.block.specs.Sound.{sound}
+use Rattle.layout.specs.Buffer.{byteAt, jobWidth}
+use Rattle.block.specs.declared.record.Flags.{Flags}
+use Rattle.block.specs.declared.record.Record.{Record}
+
+abbrev pub bit : Bool → ℕ
+bit b = cond b 1 0
+
+-- bit n of a byte
+abbrev pub bitOf : ℕ → ℕ → Bool
+bitOf b weight = eqb (b / weight % 2) 1
+
+-- "1 flags (bits 0-3 busy, done, error, aborted)"
+abbrev pub flagsByte : Flags → ℕ
+flagsByte f = bit (f .busy) + 2 * bit (f .done) + 4 * bit (f .error) + 8 * bit (f .aborted)
+
+abbrev pub flagsOf : ℕ → Flags
+flagsOf b = record { busy = bitOf b 1; done = bitOf b 2; error = bitOf b 4; aborted = bitOf b 8 }
+
+-- "0 step ...; 1 flags ...; 2 reset request, 0 or 1; 4-7 job; 8-9 error code; 12-15 time limit and 16-19 time-out taken at the start; 20-23 last clock reading; 24-31 elapsed."
+unfoldable pub encodeRecord : Record → List ℕ
+encodeRecord r =
+    (r .step ∷ flagsByte (r .flags) ∷ bit (r .request) ∷ 0 ∷ [])
+    ++ (bytes jobWidth (r .job)
+    ++ (bytes 2 (r .code)
+    ++ ((0 ∷ 0 ∷ [])
+    ++ (bytes 4 (r .limit)
+    ++ (bytes 4 (r .timeout)
+    ++ (bytes 4 (r .timer .last)
+    ++ bytes 8 (r .timer .elapsed)))))))
+
+unfoldable pub decodeRecord : List ℕ → Record
+decodeRecord s =
+    record {
+      step = byteAt s 0;
+      flags = flagsOf (byteAt s 1);
+      request = eqb (byteAt s 2) 1;
+      job = numberAt jobWidth s 4;
+      code = numberAt 2 s 8;
+      limit = numberAt 4 s 12;
+      timeout = numberAt 4 s 16;
+      timer = record { last = numberAt 4 s 20; elapsed = numberAt 8 s 24 };
+    }
+
+-- "request at most 1, unnamed bytes and bits zero"
+unfoldable pub recordForm : List ℕ → Bool
+recordForm s =
+    ltb (byteAt s 1) 16 && leb (byteAt s 2) 1 && eqb (byteAt s 3) 0 && eqb (byteAt s 10) 0 && eqb (byteAt s 11) 0
+
+-- check 21 of one record of a kind
+unfoldable pub soundBytes : ℕ → List ℕ → Bool
+soundBytes k s = recordForm s && sound k (decodeRecord s)
+
+-- a record whose fields fit their bytes
+pub record RecordFits (r : Record) : Type 0 where
+  pub step : r .step < 256
+  pub job : r .job < 256 ^ jobWidth
+  pub code : r .code < 256 ^ 2
+  pub limit : r .limit < 256 ^ 4
+  pub timeout : r .timeout < 256 ^ 4
+  pub last : r .timer .last < 256 ^ 4
+  pub elapsed : r .timer .elapsed < 256 ^ 8

@@ -1,0 +1,20 @@
+-- Document 01, "Report and journal": what a call leaves, as twelve bytes of the report.
+use Prim.Native.Nat.{ℕ}
+use mathlib.Core.List.{List, [], _∷_, _++_}
+use Rattle.words.specs.Word.{bytes}
+use Rattle.block.specs.Call.{Outcome}
+use Rattle.layout.specs.Buffer.{byteAt, jobWidth}
+use Rattle.layout.specs.RecordLayout.{flagsByte}
+
+-- "flags, pieces used, passes, step, code (2), zero (2), job (4), the record's fields as the call leaves them"
+unfoldable pub encodeReport : Outcome → List ℕ
+encodeReport o =
+    (flagsByte (o .next .flags) ∷ o .used ∷ o .passes ∷ o .next .step ∷ [])
+    ++ (bytes 2 (o .next .code) ++ ((0 ∷ 0 ∷ []) ++ bytes jobWidth (o .next .job)))
+
+-- the pieces used and the passes, as a report entry states them
+abbrev pub reportedPieces : List ℕ → ℕ
+reportedPieces s = byteAt s 1
+
+abbrev pub reportedPasses : List ℕ → ℕ
+reportedPasses s = byteAt s 2

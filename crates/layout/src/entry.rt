@@ -1,0 +1,169 @@
+// A frame entry as 56 bytes.
+use block::entry::Entry;
+use block::entry::Inputs;
+use block::entry::Piece;
+ghost use mathlib.Core.Path.{_≡_};
+ghost use mathlib.Core.List.{_++_};
+ghost use Prim.Native.Nat.{_+_, _≤_};
+ghost use lib.ListN.{length, take, drop};
+ghost use Rattle.layout.specs.Buffer.{put};
+ghost use Rattle.layout.specs.EntryLayout.{inputsByte, inputsOf, encodePiece, decodePiece, encodePieces, encodeEntry, decodeEntry, entryBytes};
+
+pub fn inputs_of(b: u8) -> Inputs
+    ensures { λ i. ⌜ i ≡ inputsOf b ⌝ }
+{
+    Inputs {
+        start: b / 1 % 2 == 1,
+        abort: b / 2 % 2 == 1,
+    }
+}
+
+fn piece_of(s: &[u8], at: usize) -> Piece
+    requires { ⌜ at + 8 ≤ length (now s) ⌝ }
+    ensures { λ p. ⌜ p ≡ decodePiece (now (s .entry)) at ⌝ }
+{
+    Piece {
+        reply: s[at],
+        code: words::u16_at(s, at + 2),
+        clock: words::u32_at(s, at + 4),
+    }
+}
+
+// The entry in 56 bytes.
+pub fn entry_of(s: &[u8]) -> Entry
+    requires { ⌜ 56 ≤ length (now s) ⌝ }
+    ensures { λ e. ⌜ e ≡ decodeEntry (now (s .entry)) ⌝ }
+{
+    let pieces = [
+        piece_of(s, 24),
+        piece_of(s, 32),
+        piece_of(s, 40),
+        piece_of(s, 48),
+    ];
+    Entry {
+        inputs: inputs_of(s[0]),
+        count: s[1],
+        abort_reply: s[2],
+        reset_reply: s[3],
+        abort_code: words::u16_at(s, 4),
+        job: words::u32_at(s, 8),
+        limit: words::u32_at(s, 12),
+        timeout: words::u32_at(s, 16),
+        clock: words::u32_at(s, 20),
+        pieces,
+    }
+}
+
+// Check 31 of one entry: the unnamed bytes and bits, then its fields.
+pub fn entry_bytes(s: &[u8]) -> bool
+    requires { ⌜ 56 ≤ length (now s) ⌝ }
+    ensures { λ r. ⌜ r ≡ entryBytes (now (s .entry)) ⌝ }
+{
+    let form = (s[0] < 4)
+        & (s[6] == 0)
+        & (s[7] == 0)
+        & (s[25] == 0)
+        & (s[33] == 0)
+        & (s[41] == 0)
+        & (s[49] == 0);
+    form & block::entry::entry_fits(entry_of(s))
+}
+
+fn inputs_byte(i: Inputs) -> u8
+    ensures { λ r. ⌜ r ≡ inputsByte i ⌝ }
+{
+    crate::record::bit(i.start) + 2 * crate::record::bit(i.abort)
+}
+
+// What stands before the pieces.
+fn head_bytes(e: Entry) -> [u8; 24]
+    ensures { λ b. ⌜ b ≡ take 24 (encodeEntry e) ⌝ }
+{
+    let code = words::u16_bytes(e.abort_code);
+    let job = words::u32_bytes(e.job);
+    let limit = words::u32_bytes(e.limit);
+    let timeout = words::u32_bytes(e.timeout);
+    let clock = words::u32_bytes(e.clock);
+    [
+        inputs_byte(e.inputs),
+        e.count,
+        e.abort_reply,
+        e.reset_reply,
+        code[0],
+        code[1],
+        0,
+        0,
+        job[0],
+        job[1],
+        job[2],
+        job[3],
+        limit[0],
+        limit[1],
+        limit[2],
+        limit[3],
+        timeout[0],
+        timeout[1],
+        timeout[2],
+        timeout[3],
+        clock[0],
+        clock[1],
+        clock[2],
+        clock[3],
+    ]
+}
+
+fn piece_bytes(p: Piece) -> [u8; 8]
+    ensures { λ b. ⌜ b ≡ encodePiece p ⌝ }
+{
+    let code = words::u16_bytes(p.code);
+    let clock = words::u32_bytes(p.clock);
+    [
+        p.reply,
+        0,
+        code[0],
+        code[1],
+        clock[0],
+        clock[1],
+        clock[2],
+        clock[3],
+    ]
+}
+
+fn put_piece(s: &mut [u8], at: usize, p: Piece)
+    requires { ⌜ at + 8 ≤ length (now s) ⌝ }
+    ensures { λ _. ⌜ now (s .exit) ≡ put at (encodePiece p) (now (s .entry)) ⌝ }
+{
+    let b = piece_bytes(p);
+    bytes::copy(&b, &mut s[at..]);
+}
+
+// The four pieces are written from place 24 on.
+fn put_pieces(s: &mut [u8], ps: [Piece; 4])
+    requires { ⌜ 56 ≤ length (now s) ⌝ }
+    ensures { λ _. ⌜ now (s .exit) ≡ take 24 (now (s .entry)) ++ (encodePieces ps ++ drop 56 (now (s .entry))) ⌝ }
+{
+    put_piece(s, 24, ps[0]);
+    put_piece(s, 32, ps[1]);
+    put_piece(s, 40, ps[2]);
+    put_piece(s, 48, ps[3]);
+}
+
+// The first 56 bytes of what is lent become the entry.
+pub fn write_entry(out: &mut [u8], e: Entry)
+    requires { ⌜ 56 ≤ length (now out) ⌝ }
+    ensures { λ _. ⌜ now (out .exit) ≡ encodeEntry e ++ drop 56 (now (out .entry)) ⌝ }
+{
+    let head = head_bytes(e);
+    bytes::copy(&head, out);
+    let pieces = e.pieces;
+    put_pieces(out, pieces);
+}
+
+// The 56 bytes of an entry.
+pub fn entry_encode(e: Entry) -> [u8; 56]
+    ensures { λ b. ⌜ b ≡ encodeEntry e ⌝ }
+{
+    let mut b = [0; 56];
+    write_entry(&mut b, e);
+    b
+}

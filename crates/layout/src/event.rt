@@ -1,0 +1,33 @@
+// A journal event as 8 bytes.
+use block::event::Event;
+ghost use mathlib.Core.Path.{_≡_};
+ghost use Prim.Native.Nat.{_+_, _≤_};
+ghost use lib.ListN.{length};
+ghost use Rattle.layout.specs.Buffer.{put};
+ghost use Rattle.layout.specs.EventLayout.{encodeEvent};
+
+pub fn event_bytes(position: u8, v: Event) -> [u8; 8]
+    ensures { λ b. ⌜ b ≡ encodeEvent position v ⌝ }
+{
+    let job = words::u32_bytes(v.job);
+    let code = words::u16_bytes(v.code);
+    [
+        v.kind,
+        position,
+        code[0],
+        code[1],
+        job[0],
+        job[1],
+        job[2],
+        job[3],
+    ]
+}
+
+// The event is written from the place `at` on.
+pub fn put_event(journal: &mut [u8], at: usize, position: u8, v: Event)
+    requires { ⌜ at + 8 ≤ length (now journal) ⌝ }
+    ensures { λ _. ⌜ now (journal .exit) ≡ put at (encodeEvent position v) (now (journal .entry)) ⌝ }
+{
+    let b = event_bytes(position, v);
+    bytes::copy(&b, &mut journal[at..]);
+}

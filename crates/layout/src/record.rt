@@ -1,0 +1,117 @@
+// A state record as 32 bytes.
+use block::record::Flags;
+use block::record::Record;
+use clock::Timer;
+ghost use mathlib.Core.Path.{_≡_};
+ghost use Prim.Native.Nat.{_+_, _<_, _≤_};
+ghost use lib.ListN.{length};
+ghost use Rattle.layout.specs.Buffer.{put};
+ghost use Rattle.layout.specs.RecordLayout.{bit, flagsByte, flagsOf, encodeRecord, decodeRecord, soundBytes};
+
+pub fn bit(b: bool) -> u8
+    ensures { λ r. ⌜ r ≡ bit b ⌝ }
+{
+    if b { 1 } else { 0 }
+}
+
+pub fn flags_byte(f: Flags) -> u8
+    ensures { λ r. ⌜ r ≡ flagsByte f ⌝ }
+    ensures { λ r. ⌜ r < 16 ⌝ }
+{
+    bit(f.busy) + 2 * bit(f.done) + 4 * bit(f.error) + 8 * bit(f.aborted)
+}
+
+pub fn flags_of(b: u8) -> Flags
+    ensures { λ f. ⌜ f ≡ flagsOf b ⌝ }
+{
+    Flags {
+        busy: b / 1 % 2 == 1,
+        done: b / 2 % 2 == 1,
+        error: b / 4 % 2 == 1,
+        aborted: b / 8 % 2 == 1,
+    }
+}
+
+// The record in 32 bytes.
+pub fn record_of(s: &[u8]) -> Record
+    requires { ⌜ 32 ≤ length (now s) ⌝ }
+    ensures { λ r. ⌜ r ≡ decodeRecord (now (s .entry)) ⌝ }
+{
+    Record {
+        step: s[0],
+        flags: flags_of(s[1]),
+        request: s[2] == 1,
+        job: words::u32_at(s, 4),
+        code: words::u16_at(s, 8),
+        limit: words::u32_at(s, 12),
+        timeout: words::u32_at(s, 16),
+        timer: Timer {
+            last: words::u32_at(s, 20),
+            elapsed: words::u64_at(s, 24),
+        },
+    }
+}
+
+// The 32 bytes of a record.
+pub fn record_bytes(r: Record) -> [u8; 32]
+    ensures { λ b. ⌜ b ≡ encodeRecord r ⌝ }
+{
+    let job = words::u32_bytes(r.job);
+    let code = words::u16_bytes(r.code);
+    let limit = words::u32_bytes(r.limit);
+    let timeout = words::u32_bytes(r.timeout);
+    let last = words::u32_bytes(r.timer.last);
+    let elapsed = words::u64_bytes(r.timer.elapsed);
+    [
+        r.step,
+        flags_byte(r.flags),
+        bit(r.request),
+        0,
+        job[0],
+        job[1],
+        job[2],
+        job[3],
+        code[0],
+        code[1],
+        0,
+        0,
+        limit[0],
+        limit[1],
+        limit[2],
+        limit[3],
+        timeout[0],
+        timeout[1],
+        timeout[2],
+        timeout[3],
+        last[0],
+        last[1],
+        last[2],
+        last[3],
+        elapsed[0],
+        elapsed[1],
+        elapsed[2],
+        elapsed[3],
+        elapsed[4],
+        elapsed[5],
+        elapsed[6],
+        elapsed[7],
+    ]
+}
+
+// The record is written from the place `at` on.
+pub fn put_record(s: &mut [u8], at: usize, r: Record)
+    requires { ⌜ at + 32 ≤ length (now s) ⌝ }
+    ensures { λ _. ⌜ now (s .exit) ≡ put at (encodeRecord r) (now (s .entry)) ⌝ }
+{
+    let b = record_bytes(r);
+    bytes::copy(&b, &mut s[at..]);
+}
+
+// Check 21 of one record: the unnamed bytes and bits, then its fields.
+pub fn sound_bytes(kind: u8, s: &[u8]) -> bool
+    requires { ⌜ 32 ≤ length (now s) ⌝ }
+    ensures { λ r. ⌜ r ≡ soundBytes kind (now (s .entry)) ⌝ }
+{
+    let form = (s[1] < 16) & (s[2] <= 1) & (s[3] == 0) & (s[10] == 0) & (s[11] == 0);
+    form & block::sound::sound(kind, record_of(s))
+}

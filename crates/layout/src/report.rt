@@ -1,0 +1,39 @@
+// A report entry as 12 bytes.
+use block::call::CallResult;
+ghost use mathlib.Core.Path.{_≡_};
+ghost use mathlib.Core.List.{_++_};
+ghost use Prim.Native.Nat.{_≤_};
+ghost use lib.ListN.{length, drop};
+ghost use Rattle.block.specs.CallResult.{outcomeOf};
+ghost use Rattle.layout.specs.ReportLayout.{encodeReport};
+
+pub fn report_bytes(a: CallResult) -> [u8; 12]
+    ensures { λ b. ⌜ b ≡ encodeReport (outcomeOf a) ⌝ }
+{
+    let r = a.next;
+    let job = words::u32_bytes(r.job);
+    let code = words::u16_bytes(r.code);
+    [
+        crate::record::flags_byte(r.flags),
+        a.used,
+        a.passes,
+        r.step,
+        code[0],
+        code[1],
+        0,
+        0,
+        job[0],
+        job[1],
+        job[2],
+        job[3],
+    ]
+}
+
+// The first twelve bytes of what is lent become the entry.
+pub fn write_report(out: &mut [u8], a: CallResult)
+    requires { ⌜ 12 ≤ length (now out) ⌝ }
+    ensures { λ _. ⌜ now (out .exit) ≡ encodeReport (outcomeOf a) ++ drop 12 (now (out .entry)) ⌝ }
+{
+    let b = report_bytes(a);
+    bytes::copy(&b, out);
+}

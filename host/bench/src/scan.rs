@@ -1,0 +1,147 @@
+//! The scan at 1, 8 and 64 blocks: idle, working, and turning jobs over.
+
+use crate::baseline;
+use crate::table::{tag, OTHERS, SIZES};
+use crate::timing::{head, line, nanoseconds};
+use lane::{ffi, image, Block, Engine, Entry, Frame, Kind, Piece, Reply, Step};
+use std::hint::black_box;
+
+/// What the blocks do, as the frames of scans that are run in turn.
+struct Load {
+    name: &'static str,
+    frames: Vec<Frame>,
+    /// The step of every block after each of the frames.
+    steps: Vec<Step>,
+}
+
+/// All buffers of scans that are measured.
+#[derive(Clone, PartialEq, Eq, Debug)]
+struct Buffers {
+    state: Vec<u8>,
+    report: Vec<u8>,
+    journal: Vec<u8>,
+}
+
+/// A function that runs a scan over an image and a frame, into the buffers: the number of events.
+type Scan = fn(&[u8], &[u8], &mut Buffers) -> u64;
+
+fn by_engine(image: &[u8], frame: &[u8], b: &mut Buffers) -> u64 {
+    let answer = ffi::scan(image, &mut b.state, frame, &mut b.report, &mut b.journal);
+    answer.map_or(u64::MAX, u64::from)
+}
+
+fn by_reference(image: &[u8], frame: &[u8], b: &mut Buffers) -> u64 {
+    let answer = reference::scan::scan(image, &mut b.state, frame, &mut b.report, &mut b.journal);
+    answer.map_or(u64::MAX, |events| events as u64)
+}
+
+fn by_baseline(image: &[u8], frame: &[u8], b: &mut Buffers) -> u64 {
+    baseline::scan(image, &mut b.state, frame, &mut b.report, &mut b.journal)
+}
+
+const ALL: [Scan; 3] = [by_engine, by_reference, by_baseline];
+
+/// A table of blocks without wires, of kinds 1 to 12 in turn: those that can be done.
+fn table(blocks: usize) -> Vec<u8> {
+    let block = |index: usize| Block::new(Kind::ALL[index % 12], tag(index + 1));
+    image(&(0..blocks).map(block).collect::<Vec<_>>())
+}
+
+/// The frame that gives every block the same entry.
+fn frame(blocks: usize, entry: &Entry) -> Frame {
+    let mut frame = Frame::new(blocks);
+    (1..=blocks).for_each(|position| frame.set(position, entry));
+    frame
+}
+
+/// The loads of so many blocks.
+fn loads(blocks: usize) -> [Load; 3] {
+    let idle = Entry {
+        reset_complete: true,
+        ..Entry::default()
+    };
+    let start = |reply| Entry {
+        start: true,
+        job: 7,
+        time_limit: 50,
+        time_out: 1_000,
+        clock: 100,
+        pieces: [Piece::new(reply, 100)].into(),
+        ..idle
+    };
+    let load = |name, entries: &[Entry], steps: &[Step]| Load {
+        name,
+        frames: entries.iter().map(|entry| frame(blocks, entry)).collect(),
+        steps: steps.to_vec(),
+    };
+    [
+        load("scan, idle", &[idle], &[Step::Dormant]),
+        load(
+            "scan, working",
+            &[start(Reply::Working)],
+            &[Step::Executing],
+        ),
+        load(
+            "scan, turning over",
+            &[start(Reply::Complete), idle],
+            &[Step::Done, Step::Dormant],
+        ),
+    ]
+}
+
+/// Runs the load once by each implementation, from fresh: the buffers after it, alike for all.
+fn settle(image: &[u8], load: &Load, fresh: &Buffers) -> Buffers {
+    let after = ALL.map(|scan| {
+        let mut buffers = fresh.clone();
+        for (frame, step) in load.frames.iter().zip(&load.steps) {
+            assert_ne!(scan(image, frame.as_bytes(), &mut buffers), u64::MAX);
+            let steps = buffers.state.chunks_exact(lane::RECORD_BYTES).map(|r| r[0]);
+            assert!(steps.into_iter().all(|found| found == step.number()));
+        }
+        buffers
+    });
+    assert!(after.iter().all(|buffers| *buffers == after[0]));
+    after[0].clone()
+}
+
+/// The times of a scan of a load by each implementation.
+fn measure(image: &[u8], load: &Load, buffers: &Buffers) -> [f64; 3] {
+    let mut works = ALL.map(|scan| {
+        let mut buffers = buffers.clone();
+        move || {
+            for frame in &load.frames {
+                let frame = black_box(frame.as_bytes());
+                black_box(scan(black_box(image), frame, &mut buffers));
+            }
+        }
+    });
+    let works = works.each_mut().map(|work| work as &mut dyn FnMut());
+    nanoseconds(works).map(|time| time / load.frames.len() as f64)
+}
+
+/// Measures and prints.
+pub fn run() {
+    println!(
+        "\nScan: kinds 1 to 12 in turn, no wires. Idle: Dormant, start false. Working: one piece a"
+    );
+    println!(
+        "call. Turning over: every block starts and is done in one scan, and is reset in the next;"
+    );
+    println!("the time is that of one. State, report and journal are not cleared between calls.");
+    head(&OTHERS);
+    let mut first = [None; 3];
+    for blocks in SIZES {
+        let table = table(blocks);
+        let engine = Engine::new(&table).expect("an accepted table");
+        let fresh = Buffers {
+            state: engine.fresh().expect("a fresh state").as_bytes().to_vec(),
+            report: vec![0; lane::REPORT_BYTES * blocks],
+            journal: vec![0; 2 * lane::EVENT_BYTES * blocks],
+        };
+        for (load, first) in loads(blocks).iter().zip(&mut first) {
+            let buffers = settle(&table, load, &fresh);
+            let times = measure(&table, load, &buffers);
+            line(load.name, blocks, &OTHERS, &times, first);
+        }
+    }
+}

@@ -1,0 +1,321 @@
+//! State records, sound and unsound, and frame entries, formed and not, for each kind.
+
+use crate::rng::Rng;
+
+/// Bytes of a record, and of an entry.
+pub const RECORD: usize = 32;
+pub const ENTRY: usize = 56;
+
+/// Places of a record's fields.
+const STEP: usize = 0;
+const FLAGS: usize = 1;
+const REQUEST: usize = 2;
+const JOB: usize = 4;
+const CODE: usize = 8;
+const LIMIT: usize = 12;
+const TIME_OUT: usize = 16;
+const READING: usize = 20;
+const ELAPSED: usize = 24;
+
+const BUSY: u8 = 1;
+const DONE: u8 = 2;
+const ERROR: u8 = 4;
+const ABORTED: u8 = 8;
+
+/// The greatest elapsed time.
+const HELD: u64 = 1 << 32;
+
+/// What a kind has.
+#[derive(Clone, Copy, Debug)]
+pub struct Has {
+    pub level: bool,
+    pub abort: bool,
+    pub limit: bool,
+    pub time_out: bool,
+    pub continuous: bool,
+}
+
+impl Has {
+    /// The properties of kind 1 to 14, by its place in the list of names.
+    pub fn of(kind: u8) -> Has {
+        let name = [
+            "", "TI", "To", "TITo", "A", "ATI", "ATo", "ATITo", "", "TI", "To", "TITo", "C", "TIC",
+        ][usize::from(kind) - 1];
+        Has {
+            level: kind >= 9,
+            abort: name.contains('A'),
+            limit: name.contains("TI"),
+            time_out: name.contains("To"),
+            continuous: name.contains('C'),
+        }
+    }
+}
+
+/// Writes a number at a place.
+fn put(to: &mut [u8], at: usize, bytes: &[u8]) {
+    to[at..at + bytes.len()].copy_from_slice(bytes);
+}
+
+/// A number of 32 bits: small, near a turn of the counter, or any.
+pub fn word(rng: &mut Rng) -> u32 {
+    match rng.below(8) {
+        0 => 0,
+        1..=4 => rng.range(1, 200) as u32,
+        5 => (rng.below(200) as u32).wrapping_neg(),
+        6 => (1 << 31) + rng.below(200) as u32 - 100,
+        _ => rng.next() as u32,
+    }
+}
+
+/// An elapsed time, up to the greatest.
+fn elapsed(rng: &mut Rng) -> u64 {
+    match rng.below(8) {
+        0 => 0,
+        1..=4 => rng.range(1, 200) as u64,
+        5 => HELD - rng.below(3) as u64,
+        _ => rng.next() & (HELD - 1),
+    }
+}
+
+/// An error code of an action.
+fn code(rng: &mut Rng) -> u16 {
+    match rng.below(4) {
+        0 => 2,
+        1 => 65_535,
+        _ => rng.range(2, 65_535) as u16,
+    }
+}
+
+/// The steps and flags that a block of a kind can have outside Dormant.
+fn shapes(has: Has) -> Vec<(u8, u8)> {
+    let mut shapes = vec![(1, BUSY), (3, ERROR), (6, ERROR)];
+    if !has.continuous {
+        shapes.extend([(2, DONE), (6, DONE)]);
+    }
+    if has.abort {
+        shapes.extend([(5, ABORTED), (6, ABORTED)]);
+    }
+    if has.abort || has.level {
+        shapes.push((4, BUSY));
+    }
+    if has.level {
+        shapes.push((6, BUSY));
+    }
+    shapes
+}
+
+/// Whether a reset request may stand with this flag.
+fn may_request(has: Has, flag: u8) -> bool {
+    flag != BUSY && !(has.level && flag == DONE)
+}
+
+/// A sound record of a block that isn't Dormant.
+fn sound_open(rng: &mut Rng, kind: u8) -> [u8; RECORD] {
+    let has = Has::of(kind);
+    let (step, flag) = rng.pick(&shapes(has));
+    let mut record = [0; RECORD];
+    record[STEP] = step;
+    record[FLAGS] = flag;
+    record[REQUEST] = u8::from(may_request(has, flag) && rng.one_in(2));
+    put(&mut record, JOB, &word(rng).to_le_bytes());
+    if flag == ERROR {
+        let time_out = has.time_out && rng.one_in(2);
+        let code = if time_out { 1 } else { code(rng) };
+        put(&mut record, CODE, &code.to_le_bytes());
+    }
+    if !has.level && has.limit {
+        put(&mut record, LIMIT, &word(rng).to_le_bytes());
+    }
+    if !has.level && has.time_out {
+        put(&mut record, TIME_OUT, &word(rng).to_le_bytes());
+    }
+    put(&mut record, READING, &word(rng).to_le_bytes());
+    put(&mut record, ELAPSED, &elapsed(rng).to_le_bytes());
+    record
+}
+
+/// A sound record.
+pub fn sound(rng: &mut Rng, kind: u8) -> [u8; RECORD] {
+    match rng.below(6) {
+        0 => [0; RECORD],
+        _ => sound_open(rng, kind),
+    }
+}
+
+/// A record that is unsound in one field.
+pub fn unsound(rng: &mut Rng, kind: u8) -> [u8; RECORD] {
+    let has = Has::of(kind);
+    let mut record = sound_open(rng, kind);
+    let flag = record[FLAGS];
+    match rng.below(14) {
+        // A Dormant record that is not all zero.
+        0 => {
+            record = [0; RECORD];
+            record[rng.range(1, RECORD - 1)] = rng.byte(1, 255);
+        }
+        1 => record[STEP] = 0,
+        2 => record[STEP] = rng.byte(7, 255),
+        3 => record[FLAGS] = 0,
+        4 => record[FLAGS] |= 1 << rng.byte(4, 7),
+        // Another flag beside the one it has.
+        5 => {
+            let mut flags = vec![BUSY, DONE, ERROR, ABORTED];
+            flags.retain(|&other| other != flag);
+            record[FLAGS] |= rng.pick(&flags);
+        }
+        // A step and a flag that don't go together.
+        6 => loop {
+            let shape = (rng.byte(1, 6), rng.pick(&[BUSY, DONE, ERROR, ABORTED]));
+            if !shapes(has).contains(&shape) {
+                (record[STEP], record[FLAGS]) = shape;
+                let code = if shape.1 == ERROR { code(rng) } else { 0 };
+                put(&mut record, CODE, &code.to_le_bytes());
+                record[REQUEST] = 0;
+                break;
+            }
+        },
+        7 => record[REQUEST] = rng.byte(2, 255),
+        8 if !may_request(has, flag) => record[REQUEST] = 1,
+        9 if flag == ERROR => put(&mut record, CODE, &[0, 0]),
+        9 => put(&mut record, CODE, &code(rng).to_le_bytes()),
+        10 if flag == ERROR && !has.time_out => put(&mut record, CODE, &[1, 0]),
+        11 if has.level || !has.limit => {
+            put(&mut record, LIMIT, &word(rng).max(1).to_le_bytes());
+        }
+        12 if has.level || !has.time_out => {
+            put(&mut record, TIME_OUT, &word(rng).max(1).to_le_bytes());
+        }
+        13 => {
+            let past = match rng.below(3) {
+                0 => HELD + 1,
+                1 => HELD + rng.range(1, 1 << 20) as u64,
+                _ => rng.next() | HELD << rng.range(1, 31),
+            };
+            put(&mut record, ELAPSED, &past.to_le_bytes());
+        }
+        // An unnamed byte.
+        _ => record[rng.pick(&[3, 10, 11])] = rng.byte(1, 255),
+    }
+    record
+}
+
+/// A clock that goes on by small steps, and sometimes stands, turns or runs back.
+#[derive(Clone, Debug)]
+pub struct Clock(u32);
+
+impl Clock {
+    /// A clock at zero, shortly before a turn of the counter, or anywhere.
+    pub fn new(rng: &mut Rng) -> Clock {
+        Clock(match rng.below(3) {
+            0 => 0,
+            1 => (rng.range(1, 60) as u32).wrapping_neg(),
+            _ => rng.next() as u32,
+        })
+    }
+
+    /// The next reading.
+    fn read(&mut self, rng: &mut Rng) -> u32 {
+        let step = match rng.below(32) {
+            0..=7 => 0,
+            8..=23 => rng.range(1, 12) as u32,
+            24..=28 => rng.range(13, 120) as u32,
+            29 => (rng.range(1, 20) as u32).wrapping_neg(),
+            30 => (1 << 31) + rng.below(3) as u32 - 1,
+            _ => rng.next() as u32,
+        };
+        self.0 = self.0.wrapping_add(step);
+        self.0
+    }
+}
+
+/// A limit or time-out: none, of the size of a few steps of the clock, or any.
+fn bound(rng: &mut Rng) -> u32 {
+    match rng.below(10) {
+        0..=2 => 0,
+        3..=7 => rng.range(1, 30) as u32,
+        8 => rng.range(31, 200) as u32,
+        _ => word(rng),
+    }
+}
+
+/// A reply and its code, by weights of working, complete and error.
+fn reply(rng: &mut Rng, working: usize, complete: usize, error: usize) -> (u8, u16) {
+    let drawn = rng.below(working + complete + error);
+    if drawn < working {
+        (0, 0)
+    } else if drawn < working + complete {
+        (1, 0)
+    } else {
+        (2, code(rng))
+    }
+}
+
+/// How a list of scans drives its blocks: how often start holds, and how often abort comes.
+#[derive(Clone, Copy, Debug)]
+pub struct Drive {
+    /// Of eight entries, so many start.
+    pub start: usize,
+    /// Of eight entries, so many abort.
+    pub abort: usize,
+    /// Of eight pieces, so many are working.
+    pub working: usize,
+}
+
+impl Drive {
+    pub fn any(rng: &mut Rng) -> Drive {
+        Drive {
+            start: rng.pick(&[3, 5, 6, 7]),
+            abort: rng.pick(&[0, 1, 3]),
+            working: rng.pick(&[2, 4, 6]),
+        }
+    }
+}
+
+/// A formed entry.
+pub fn entry(rng: &mut Rng, drive: Drive, clock: &mut Clock) -> [u8; ENTRY] {
+    let mut entry = [0; ENTRY];
+    let start = rng.below(8) < drive.start;
+    let abort = rng.below(8) < drive.abort;
+    entry[0] = u8::from(start) | u8::from(abort) << 1;
+    let (abort_reply, abort_code) = reply(rng, 3, 4, 1);
+    entry[2] = abort_reply;
+    put(&mut entry, 4, &abort_code.to_le_bytes());
+    entry[3] = u8::from(rng.below(4) > 0);
+    put(&mut entry, 8, &word(rng).to_le_bytes());
+    put(&mut entry, 12, &bound(rng).to_le_bytes());
+    put(&mut entry, 16, &bound(rng).to_le_bytes());
+    put(&mut entry, 20, &clock.read(rng).to_le_bytes());
+    let pieces = rng.pick(&[0, 1, 1, 1, 2, 2, 3, 4]);
+    entry[1] = pieces as u8;
+    for piece in entry[24..].chunks_exact_mut(8).take(pieces) {
+        let (reply, code) = reply(rng, drive.working, 7 - drive.working, 1);
+        piece[0] = reply;
+        put(piece, 2, &code.to_le_bytes());
+        put(piece, 4, &clock.read(rng).to_le_bytes());
+    }
+    entry
+}
+
+/// Spoils one field of a formed entry.
+pub fn spoil_entry(rng: &mut Rng, entry: &mut [u8]) {
+    let pieces = usize::from(entry[1]);
+    // The first byte of a piece that the entry has, or of the first.
+    let piece = 24 + 8 * rng.below(pieces.max(1));
+    match rng.below(10) {
+        0 => entry[0] |= 1 << rng.byte(2, 7),
+        1 => entry[1] = rng.byte(5, 255),
+        2 => entry[2] = rng.byte(3, 255),
+        3 => entry[3] = rng.byte(2, 255),
+        // A code that the reply doesn't go with.
+        4 if entry[2] == 2 => put(entry, 4, &[rng.byte(0, 1), 0]),
+        4 => put(entry, 4, &code(rng).to_le_bytes()),
+        5 => entry[rng.range(6, 7)] = rng.byte(1, 255),
+        // A piece past the last.
+        6 if pieces < 4 => entry[rng.range(24 + 8 * pieces, 55)] = rng.byte(1, 255),
+        _ if pieces == 0 => entry[0] = rng.byte(4, 255),
+        7 => entry[piece] = rng.byte(3, 255),
+        8 => entry[piece + 1] = rng.byte(1, 255),
+        _ if entry[piece] == 2 => put(entry, piece + 2, &[rng.byte(0, 1), 0]),
+        _ => put(entry, piece + 2, &code(rng).to_le_bytes()),
+    }
+}

@@ -1,0 +1,189 @@
+//! Scans: the buffers of one scan, and damage to them with the refusal it must give.
+
+use crate::records::{entry, sound, spoil_entry, unsound, Clock, Drive, ENTRY, RECORD};
+use crate::rng::Rng;
+use crate::tables::{Fault, Table};
+use lane::Refusal;
+
+/// Bytes of a report entry, and of two events.
+const REPORT: usize = 12;
+const EVENTS: usize = 16;
+
+/// All that one scan is given.
+#[derive(Clone, Debug, PartialEq, Eq)]
+pub struct Buffers {
+    pub image: Vec<u8>,
+    pub state: Vec<u8>,
+    pub frame: Vec<u8>,
+    pub report: Vec<u8>,
+    pub journal: Vec<u8>,
+}
+
+/// So many bytes of some pattern, to show what was written.
+fn noise(rng: &mut Rng, count: usize) -> Vec<u8> {
+    let mut byte = rng.byte(0, 255);
+    let step = rng.pick(&[0u8, 1, 7]);
+    let mut next = || {
+        byte = byte.wrapping_add(step);
+        byte
+    };
+    (0..count).map(|_| next()).collect()
+}
+
+/// Another length than this, near it or far.
+fn other_length(rng: &mut Rng, length: usize) -> usize {
+    loop {
+        let other = match rng.below(5) {
+            0 => 0,
+            1 => length + 1,
+            2 => length.saturating_sub(1),
+            3 => length + rng.range(1, 64),
+            _ => length.saturating_sub(rng.range(1, 64)),
+        };
+        if other != length {
+            return other;
+        }
+    }
+}
+
+/// A sound state of a table: of blocks at any step.
+pub fn sound_state(rng: &mut Rng, table: &Table) -> Vec<u8> {
+    let kinds = table.chain.iter().map(|&slot| table.kind(slot));
+    kinds.flat_map(|kind| sound(rng, kind)).collect()
+}
+
+/// A list of scans under way: what stays the same from one scan to the next.
+#[derive(Clone, Debug)]
+pub struct List {
+    pub table: Table,
+    drive: Drive,
+    clock: Clock,
+    /// Whether all blocks of a scan are called at about the same time.
+    together: bool,
+}
+
+impl List {
+    pub fn new(rng: &mut Rng, table: Table) -> List {
+        let drive = Drive::any(rng);
+        let clock = Clock::new(rng);
+        List {
+            table,
+            drive,
+            clock,
+            together: rng.one_in(2),
+        }
+    }
+
+    /// The next scan from this state, with a formed frame and buffers that hold anything.
+    pub fn scan(&mut self, rng: &mut Rng, state: &[u8]) -> Buffers {
+        let blocks = self.table.chain.len();
+        let mut frame = Vec::with_capacity(ENTRY * blocks);
+        let start = self.clock.clone();
+        for _ in 0..blocks {
+            if self.together {
+                self.clock = start.clone();
+            }
+            frame.extend_from_slice(&entry(rng, self.drive, &mut self.clock));
+        }
+        let spare = rng.pick(&[0, 0, 0, 1, 8, 100]);
+        Buffers {
+            image: self.table.image.clone(),
+            state: state.to_vec(),
+            frame,
+            report: noise(rng, REPORT * blocks),
+            journal: noise(rng, EVENTS * blocks + spare),
+        }
+    }
+
+    /// Damages what a scan is given: the refusal that this alone must give, `None` where there is
+    /// nothing to damage.
+    pub fn damage(&self, rng: &mut Rng, scan: &mut Buffers, wrong: Wrong) -> Option<Refusal> {
+        let blocks = self.table.chain.len();
+        match wrong {
+            Wrong::Table => {
+                let mut table = self.table.clone();
+                let fault = rng.pick(&Fault::ALL);
+                let refusal = table.damage(rng, fault);
+                scan.image = table.image;
+                refusal
+            }
+            Wrong::StateLength => {
+                let length = other_length(rng, RECORD * blocks);
+                scan.state.resize(length, 0);
+                Some(Refusal::new(20, 0))
+            }
+            Wrong::State => {
+                let index = rng.below(blocks.max(1));
+                let kind = self.table.kind(*self.table.chain.get(index)?);
+                let (records, _) = scan.state.as_chunks_mut();
+                *records.get_mut(index)? = unsound(rng, kind);
+                Some(Refusal::new(21, index as u32 + 1))
+            }
+            Wrong::FrameLength => {
+                let length = other_length(rng, ENTRY * blocks);
+                scan.frame.resize(length, 0);
+                Some(Refusal::new(30, 0))
+            }
+            Wrong::Frame => {
+                let index = rng.below(blocks.max(1));
+                spoil_entry(rng, scan.frame.chunks_exact_mut(ENTRY).nth(index)?);
+                Some(Refusal::new(31, index as u32 + 1))
+            }
+            Wrong::ReportLength => {
+                let length = other_length(rng, REPORT * blocks);
+                scan.report.resize(length, 0xee);
+                Some(Refusal::new(40, 0))
+            }
+            Wrong::JournalLength => {
+                let least = EVENTS * blocks;
+                let any = rng.below(least.max(1));
+                let length = rng.pick(&[0, least.saturating_sub(1), any]);
+                scan.journal.truncate(length);
+                (blocks > 0).then_some(Refusal::new(41, 0))
+            }
+        }
+    }
+
+    /// Changes some bytes of the state and the frame anywhere.
+    pub fn scramble(&self, rng: &mut Rng, scan: &mut Buffers) {
+        for _ in 0..rng.range(1, 3) {
+            let bytes = match rng.below(2) {
+                0 => &mut scan.state,
+                _ => &mut scan.frame,
+            };
+            if !bytes.is_empty() {
+                let at = rng.below(bytes.len());
+                bytes[at] = match rng.below(3) {
+                    0 => rng.byte(0, 255),
+                    1 => bytes[at] ^ (1 << rng.below(8)),
+                    _ => rng.byte(0, 6),
+                };
+            }
+        }
+    }
+}
+
+/// A sort of damage, in the order of the checks. Of several, a wrong length goes last.
+#[derive(Clone, Copy, Debug, PartialEq, Eq, PartialOrd, Ord)]
+pub enum Wrong {
+    Table,
+    StateLength,
+    State,
+    FrameLength,
+    Frame,
+    ReportLength,
+    JournalLength,
+}
+
+impl Wrong {
+    /// All sorts.
+    pub const ALL: [Wrong; 7] = [
+        Wrong::Table,
+        Wrong::StateLength,
+        Wrong::State,
+        Wrong::FrameLength,
+        Wrong::Frame,
+        Wrong::ReportLength,
+        Wrong::JournalLength,
+    ];
+}

@@ -1,0 +1,92 @@
+//! What the accepted scans of a test did: events by the kind of block, passes, pieces and steps.
+
+use crate::records::Has;
+use crate::scans::Buffers;
+use crate::tables::Table;
+use lane::{Event, EventKind, ReportEntry};
+use std::fmt;
+
+/// Counts over all calls of all accepted scans.
+#[derive(Clone, Debug, Default)]
+pub struct Seen {
+    scans: u64,
+    calls: u64,
+    /// By the kind of block and of event.
+    events: [[u64; 6]; 15],
+    /// Failed by time-out, by the kind of block.
+    time_outs: [u64; 15],
+    passes: [u64; 7],
+    pieces: [u64; 5],
+    steps: [u64; 7],
+}
+
+impl Seen {
+    /// Counts what an accepted scan left: its report, and so many events.
+    pub fn add(&mut self, table: &Table, after: &Buffers, events: u32) {
+        self.scans += 1;
+        for bytes in after.report.as_chunks().0 {
+            let entry = ReportEntry::decode(bytes).expect("a report entry in form");
+            assert!(entry.passes <= 6, "{} passes", entry.passes);
+            self.calls += 1;
+            self.passes[usize::from(entry.passes)] += 1;
+            self.pieces[usize::from(entry.pieces_used)] += 1;
+            self.steps[usize::from(entry.step.number())] += 1;
+        }
+        for event in events_of(after, events) {
+            let slot = table.chain[usize::from(event.position) - 1];
+            let kind = usize::from(table.kind(slot));
+            self.events[kind][usize::from(event.kind.number())] += 1;
+            self.time_outs[kind] += u64::from(event.code == 1);
+        }
+    }
+
+    /// Fails unless each event was seen on each kind of block that can have it, and all numbers of
+    /// passes, of pieces and all steps.
+    pub fn expect_all(&self) {
+        for kind in 1..=14 {
+            let has = Has::of(kind);
+            let events = &self.events[usize::from(kind)];
+            let can = [true, !has.continuous, true, has.abort, has.level];
+            for (event, can) in EventKind::ALL.iter().zip(can) {
+                let count = events[usize::from(event.number())];
+                assert!((count > 0) == can, "kind {kind}: {count} {event:?}\n{self}");
+            }
+            let time_outs = self.time_outs[usize::from(kind)];
+            assert!(
+                (time_outs > 0) == has.time_out,
+                "kind {kind}: {time_outs} time-outs\n{self}"
+            );
+        }
+        assert!(self.passes[1..].iter().all(|&count| count > 0), "{self}");
+        assert!(self.pieces.iter().all(|&count| count > 0), "{self}");
+        assert!(self.steps.iter().all(|&count| count > 0), "{self}");
+    }
+}
+
+/// The first events of a journal, so many.
+pub fn events_of(after: &Buffers, events: u32) -> impl Iterator<Item = Event> + '_ {
+    let (list, _) = after.journal.as_chunks();
+    let list = list.iter().take(events as usize);
+    list.map(|bytes| Event::decode(bytes).expect("an event in form"))
+}
+
+impl fmt::Display for Seen {
+    fn fmt(&self, f: &mut fmt::Formatter<'_>) -> fmt::Result {
+        writeln!(f, "{} accepted scans, {} calls", self.scans, self.calls)?;
+        writeln!(
+            f,
+            "  kind     start      done    failed (time-out)   aborted withdrawn"
+        )?;
+        for kind in 1..=14 {
+            let [_, start, done, failed, aborted, withdrawn] = self.events[kind];
+            let time_outs = self.time_outs[kind];
+            writeln!(
+                f,
+                "{kind:>6}{start:>10}{done:>10}{failed:>10}{time_outs:>11}{aborted:>10}{withdrawn:>10}"
+            )?;
+        }
+        writeln!(f, "  calls of 1 to 6 passes: {:?}", &self.passes[1..])?;
+        writeln!(f, "  calls of 0 to 4 pieces: {:?}", self.pieces)?;
+        writeln!(f, "  calls left at step 0 to 6: {:?}", self.steps)
+    }
+}
