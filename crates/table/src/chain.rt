@@ -7,10 +7,9 @@ ghost use lib.ListN.{length, getD};
 ghost use Rattle.table.specs.Header.{Headed};
 ghost use Rattle.table.specs.Walk.{walked};
 ghost use Rattle.table.specs.Chain.{chainOf, chainVerdict, Holds};
-use crate::image::NEXT;
-use crate::image::slot_byte;
 use crate::place::Place;
 use crate::place::Verdict;
+use walker::slot_after;
 
 // The first `count` of `slots` are the chain's slots, in order; `positions` has the position of each slot, 0 off the chain.
 pub struct Chain {
@@ -54,7 +53,7 @@ pub fn walk(image: &[u8]) -> ChainWalk
     let mut count: usize = 0;
     let mut from = Place::Header;
     let n = image[1];
-    let mut at = image[2];
+    let mut at = slot_after(image, 0);
     while at != 0 {
         if n < at {
             return stopped(5, from);
@@ -67,7 +66,7 @@ pub fn walk(image: &[u8]) -> ChainWalk
         count += 1;
         positions[i] = count as u8;
         from = Place::Slot(at);
-        at = slot_byte(image, at, NEXT);
+        at = slot_after(image, at);
     }
     ChainWalk {
         verdict: Verdict::Passed,

@@ -6,8 +6,6 @@ ghost use Rattle.table.specs.Image.{slotStart, slotByte, HasSlot};
 // Where the fields of a slot stand.
 pub const KIND: usize = 0;
 
-pub const NEXT: usize = 1;
-
 pub const START_WIRE: usize = 2;
 
 pub const ABORT_WIRE: usize = 4;

@@ -1,9 +1,10 @@
 -- `chain::walk` meets its contract. The loop keeps `Walking`: the walk from the slots met so far is the whole walk. Measure: the slots not met.
 use Prim.Native.Nat.{_-_}
-use mathlib.Core.Path.{_≡_, refl}
+use mathlib.Core.Path.{_≡_, refl, _∙_}
 use native.Mathlib.Omega.{arith}
 use borrow.Author.Needs.{needs}
-use Rattle.table.specs.Image.{slotCount, nextOf}
+use borrow.Author.Tests.{ne-eqb}
+use Rattle.table.specs.Image.{slotCount, headSlot, nextOf}
 use Rattle.table.proofs.ChainLaws.{Walking, walking-start, walking-ends, walking-above, walking-again, walking-room, walking-onward, stopped-walk}
 use Rattle.table.proofs.chain.walk.Statement.{statement}
 use Rattle.table.proofs.chain.walk.Tie as tie
@@ -17,11 +18,14 @@ abbrev μ-loop : tie.MeasureT-loop
 shared-slice-read-n : tie.Need-shared-slice-read-n Inv-loop μ-loop
 shared-slice-read-n c = omega arith
 
-shared-slice-read-at : tie.Need-shared-slice-read-at Inv-loop μ-loop
-shared-slice-read-at c = omega arith
+slot-after-requires : tie.Need-slot-after-requires Inv-loop μ-loop
+slot-after-requires c κs = omega arith
 
 loop-holds : tie.Need-loop-holds Inv-loop μ-loop
-loop-holds c = walking-start (c .before .before .before .args .image .now) _ _ refl refl (c .shared-slice-known3 .given 2 .fits)
+loop-holds c =
+    let s = c .before .before .before .args .image .now in
+    let e : c .slot-after .result ≡ headSlot s = c .slot-after .ensures in
+    rw e (walking-start s _ _ refl refl (c .before .shared-slice-known2 .given 2 .fits))
 
 stopped-requires : tie.Need-stopped-requires Inv-loop μ-loop
 stopped-requires c κs = search needs
@@ -65,8 +69,8 @@ cast-positions c =
 array-write-positions : tie.Need-array-write-positions Inv-loop μ-loop
 array-write-positions c = omega (arith, c .before .before .before .before .before .before .before .pre .few, c .before .before .before .loop .inv .places .sized)
 
-slot-byte-requires : tie.Need-slot-byte-requires Inv-loop μ-loop
-slot-byte-requires c κs = omega (arith, c .before .before .before .before .before .before .before .pre .sized)
+slot-after-requires-2 : tie.Need-slot-after-requires-2 Inv-loop μ-loop
+slot-after-requires-2 c κs = omega (arith, c .before .before .before .before .before .before .before .pre .sized)
 
 loop-less : tie.Need-loop-less Inv-loop μ-loop
 loop-less c =
@@ -77,8 +81,8 @@ loop-again : tie.Need-loop-again Inv-loop μ-loop
 loop-again c =
     let L = c .before .before .before .before .loop in
     let s = c .before .before .before .before .before .before .before .before .args .image .now in
-    let e : c .slot-byte .result ≡ nextOf s (L .at) = c .slot-byte .ensures in
-    rw e (walking-onward s (L .slots) (L .positions) (L .count) (L .from) (L .at) (c .before .before .before .before .before .before .before .before .pre) (L .inv) (c .before .before .before .loop-test .taken) (c .before .before .if1 .left) (c .before .if2 .left) (c .before .before .before .before .before .shared-slice-known3 .given _ .fits))
+    let e : c .slot-after2 .result ≡ nextOf s (L .at) = c .slot-after2 .ensures ∙ simp (ne-eqb _ _ (c .before .before .before .loop-test .taken)) in
+    rw e (walking-onward s (L .slots) (L .positions) (L .count) (L .from) (L .at) (c .before .before .before .before .before .before .before .before .pre) (L .inv) (c .before .before .before .loop-test .taken) (c .before .before .if1 .left) (c .before .if2 .left) (c .before .before .before .before .before .before .shared-slice-known2 .given _ .fits))
 
 returns-3 : tie.Need-returns-3 Inv-loop μ-loop
 returns-3 c =
@@ -92,7 +96,7 @@ walk-spec =
     Inv-loop
     μ-loop
     shared-slice-read-n
-    shared-slice-read-at
+    slot-after-requires
     loop-holds
     stopped-requires
     returns
@@ -104,7 +108,7 @@ walk-spec =
     add-count
     cast-positions
     array-write-positions
-    slot-byte-requires
+    slot-after-requires-2
     loop-less
     loop-again
     returns-3)
