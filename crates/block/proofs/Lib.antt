@@ -1,6 +1,7 @@
 pub mod Tests
 pub mod Pieces
 pub mod Shapes
+pub mod SoundSteps
 pub mod WorkLaws
 pub mod Passes
 pub mod CallLaws

@@ -1,13 +1,12 @@
--- The four pieces of an entry: their test one by one, for `pieces_fit`, and their use one after the other from an index on, for the loop of `use_pieces`.
+-- The pieces of an entry, used one after the other from an index on. For the loop of `use_pieces`.
 use Prim.Native.Nat.{ℕ, _+_, _≤_, _<_}
 use native.Mathlib.Numerals.{add-one}
 use native.Mathlib.Omega.{arith}
-use mathlib.Core.Bool.{Bool, true, false, _&&_}
-use mathlib.Core.List.{List, [], _∷_}
-use mathlib.Core.Path.{_≡_, _∙_, refl, ap, sym}
+use mathlib.Core.Bool.{Bool, true, false}
+use mathlib.Core.List.{List, _∷_}
+use mathlib.Core.Path.{_≡_, _∙_, ap, sym}
 use lib.ListN.{length, take, drop, getD, length-take, drop-of-length-le}
 use lib.Seq.{drop-cons, getD-take}
-use Rattle.block.specs.Entry.{pieceFits, piecesFit}
 use Rattle.block.specs.Executing.{usePiece, endsPieces, usePieces}
 use Rattle.block.specs.declared.entry.Piece.{Piece}
 use Rattle.block.specs.declared.executing.Work.{Work}
@@ -19,22 +18,6 @@ noPiece = record { reply = 0; code = 0; clock = 0 }
 
 abbrev pub pieceAt : List Piece → ℕ → Piece
 pieceAt ps i = getD ps i noPiece
-
-grouped : (p q r s : Bool) → p && q && r && s ≡ p && (q && (r && (s && true)))
-grouped false q r s = refl
-grouped true false r s = refl
-grouped true true false s = refl
-grouped true true true true = refl
-grouped true true true false = refl
-
-pub four-fit : (n : ℕ) (ps : List Piece) → length ps ≡ 4 → pieceFits n 0 (pieceAt ps 0) && pieceFits n 1 (pieceAt ps 1) && pieceFits n 2 (pieceAt ps 2) && pieceFits n 3 (pieceAt ps 3) ≡ piecesFit n 0 ps
-unfolding piecesFit
-four-fit n [] h = absurd (omega arith)
-four-fit n (p ∷ []) h = absurd (omega arith)
-four-fit n (p ∷ q ∷ []) h = absurd (omega arith)
-four-fit n (p ∷ q ∷ r ∷ []) h = absurd (omega arith)
-four-fit n (p ∷ q ∷ r ∷ s ∷ []) h = grouped (pieceFits n 0 p) (pieceFits n 1 q) (pieceFits n 2 r) (pieceFits n 3 s)
-four-fit n (p ∷ q ∷ r ∷ s ∷ t ∷ ps) h = absurd (omega arith)
 
 -- the first n pieces, used from the i-th on
 module _ (several : Bool) (b : Bounds) (n : ℕ) (ps : List Piece) (i : ℕ) (w : Work) (fits : n ≤ length ps) where

@@ -85,7 +85,7 @@ flags-are b d x a f h =
     let p = each (Bool·beq (f .busy) b) (Bool·beq (f .done) d ∷ Bool·beq (f .error) x ∷ Bool·beq (f .aborted) a ∷ []) h in
     λ i. record { busy = beq-true (f .busy) b (p .0) i; done = beq-true (f .done) d (p .1 .0) i; error = beq-true (f .error) x (p .1 .1 .0) i; aborted = beq-true (f .aborted) a (p .1 .1 .1) i }
 
-fresh-is : (r : Record) → eqb (r .step) 0 ≡ true → zeroed r ≡ true → r ≡ freshRecord
+pub fresh-is : (r : Record) → eqb (r .step) 0 ≡ true → zeroed r ≡ true → r ≡ freshRecord
 unfolding zeroed
 fresh-is r s h =
     let p = each (only false false false false (r .flags))
@@ -104,7 +104,7 @@ fresh-is r s h =
 code-zero : (c : ℕ) → Bool·beq (not (eqb c 0)) false ≡ true → c ≡ 0
 code-zero c h = eqb-true c 0 (not-false (eqb c 0) (beq-true (not (eqb c 0)) false h))
 
-beq-on : (b : Bool) → Bool·beq b true ≡ b
+pub beq-on : (b : Bool) → Bool·beq b true ≡ b
 beq-on true = refl
 beq-on false = refl
 

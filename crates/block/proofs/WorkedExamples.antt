@@ -1,4 +1,4 @@
--- The cases C1 to C12 of document 01 hold of the block machine: antt computes the table. For the reader of document 01.
+-- The cases C1 to C12 of document 01 hold of the block machine: the table is computed. For the reader of document 01.
 use mathlib.Core.Path.{refl}
 use Rattle.kind.specs.Kind.{isEdge, hasAbort, hasTimeLimit, hasTimeOut, isContinuous}
 use Rattle.clock.specs.Clock.{since, tick, past, pastLimit, pastTimeOut}

@@ -22,7 +22,7 @@ pub record Outcome : Type 0 where
 abbrev pub lastly : Pass → Outcome
 lastly p = record { next = p .next; events = emitted (p .event); used = p .used; passes = 1 }
 
--- a pass, and the rest of the call after it
+-- a pass, and the rest of the call after it; "Pieces used count the pieces that Executing took."
 abbrev pub first : Pass → Outcome → Outcome
 first p o = record { next = o .next; events = emitted (p .event) ++ o .events; used = p .used + o .used; passes = suc (o .passes) }
 
@@ -31,7 +31,7 @@ pub data Call (k : ℕ) (i : Inputs) (e : Entry) : Record → Outcome → Type 0
   stops : (r : Record) → pass k i e r .again ≡ false → Call k i e r (lastly (pass k i e r))
   goes : (r : Record) (o : Outcome) → pass k i e r .again ≡ true → Call k i e (pass k i e r .next) o → Call k i e r (first (pass k i e r) o)
 
--- A call computed, with at most n passes before the last. From a sound record and an entry in form it is the Call for n = 5 (CallLaws).
+-- A call computed, with at most n passes before the last. From a sound record it is the Call for n = 5: call-whole, proofs/CallLaws.antt.
 unfoldable pub callWithin : ℕ → ℕ → Inputs → Entry → Record → Outcome
 callWithin zero k i e r = lastly (pass k i e r)
 callWithin (suc n) k i e r =

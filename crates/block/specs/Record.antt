@@ -26,7 +26,7 @@ Aborted = 5
 abbrev pub Resetting : ℕ
 Resetting = 6
 
--- no flag, and busy only
+-- no flag
 abbrev pub noFlags : Flags
 noFlags = record { busy = false; done = false; error = false; aborted = false }
 

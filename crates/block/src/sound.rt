@@ -1,8 +1,9 @@
-// Check 21: which records are sound for a kind.
+// Check 21: which records are sound for a kind, by the step.
 use crate::record::Flags;
 use crate::record::Record;
 ghost use mathlib.Core.Path.{_≡_};
-ghost use Rattle.block.specs.Sound.{only, zeroed, flagsFit, codeSound, requestSound, stepSound, timesSound, sound};
+ghost use Rattle.block.specs.Record.{Executing, Done, Error, Aborted, Resetting, atStep};
+ghost use Rattle.block.specs.Sound.{only, zeroed, timesSound, sound};
 
 // Just these flags are set.
 fn only(f: Flags, busy: bool, done: bool, error: bool, aborted: bool) -> bool
@@ -24,60 +25,86 @@ fn zeroed(r: Record) -> bool
         & (r.timer.elapsed == 0)
 }
 
-// The flags that a step admits.
-fn flags_fit(kind: u8, step: u8, f: Flags) -> bool
-    ensures { λ b. ⌜ b ≡ flagsFit kind step f ⌝ }
-{
-    let busy = only(f, true, false, false, false);
-    let done = only(f, false, true, false, false);
-    let error = only(f, false, false, true, false);
-    let aborted = only(f, false, false, false, true);
-    let level = !kind::is_edge(kind);
-    (!((step == Record::EXECUTING) | (step == Record::ABORTING)) | busy)
-        & (!(step == Record::DONE) | done)
-        & (!(step == Record::ERROR) | error)
-        & (!(step == Record::ABORTED) | aborted)
-        & (!(step == Record::RESETTING) | (done | error | aborted | (level & busy)))
-}
-
-fn code_sound(kind: u8, r: Record) -> bool
-    ensures { λ b. ⌜ b ≡ codeSound kind r ⌝ }
-{
-    (!(r.code == 0) == r.flags.error) & (!(r.code == 1) | kind::has_time_out(kind))
-}
-
-fn request_sound(kind: u8, r: Record) -> bool
-    ensures { λ b. ⌜ b ≡ requestSound kind r ⌝ }
-{
-    (!r.flags.busy | !r.request) & (!(r.flags.done & !kind::is_edge(kind)) | !r.request)
-}
-
-// Steps and flags that only some kinds have.
-fn step_sound(kind: u8, r: Record) -> bool
-    ensures { λ b. ⌜ b ≡ stepSound kind r ⌝ }
-{
-    (!((r.step == Record::DONE) | r.flags.done) | !kind::is_continuous(kind))
-        & (!(r.step == Record::ABORTING) | (5 <= kind))
-        & (!((r.step == Record::ABORTED) | r.flags.aborted) | kind::has_abort(kind))
-        & (r.step <= 6)
-}
-
+// No stored time is sound on every kind.
 fn times_sound(kind: u8, r: Record) -> bool
     ensures { λ b. ⌜ b ≡ timesSound kind r ⌝ }
 {
+    let elapsed = r.timer.elapsed <= 4294967296;
+    if (r.limit == 0) & (r.timeout == 0) {
+        return elapsed;
+    }
     let edge = kind::is_edge(kind);
-    (r.timer.elapsed <= 4294967296)
+    elapsed
         & ((r.limit == 0) | (edge & kind::has_time_limit(kind)))
         & ((r.timeout == 0) | (edge & kind::has_time_out(kind)))
+}
+
+// Busy only: no code, no request.
+fn executing_sound(kind: u8, r: Record) -> bool
+    ensures { λ b. ⌜ b ≡ sound kind (atStep Executing r) ⌝ }
+{
+    only(r.flags, true, false, false, false) & (r.code == 0) & !r.request & times_sound(kind, r)
+}
+
+// Done only: no code, no request on level kinds, not on continuous kinds.
+fn done_sound(kind: u8, r: Record) -> bool
+    ensures { λ b. ⌜ b ≡ sound kind (atStep Done r) ⌝ }
+{
+    only(r.flags, false, true, false, false)
+        & (r.code == 0)
+        & (kind::is_edge(kind) | !r.request)
+        & !kind::is_continuous(kind)
+        & times_sound(kind, r)
+}
+
+// Error only: a code, which is 1 only for To kinds.
+fn error_sound(kind: u8, r: Record) -> bool
+    ensures { λ b. ⌜ b ≡ sound kind (atStep Error r) ⌝ }
+{
+    only(r.flags, false, false, true, false)
+        & !(r.code == 0)
+        & (!(r.code == 1) | kind::has_time_out(kind))
+        & times_sound(kind, r)
+}
+
+// Aborted only: no code, on kinds with an abort input.
+fn aborted_sound(kind: u8, r: Record) -> bool
+    ensures { λ b. ⌜ b ≡ sound kind (atStep Aborted r) ⌝ }
+{
+    only(r.flags, false, false, false, true)
+        & (r.code == 0)
+        & kind::has_abort(kind)
+        & times_sound(kind, r)
+}
+
+// One of done, error, aborted, or on level kinds busy, with what goes with that flag.
+fn resetting_sound(kind: u8, r: Record) -> bool
+    ensures { λ b. ⌜ b ≡ sound kind (atStep Resetting r) ⌝ }
+{
+    if r.flags.busy {
+        return !kind::is_edge(kind) & executing_sound(kind, r);
+    }
+    if r.flags.done {
+        return done_sound(kind, r);
+    }
+    if r.flags.error {
+        return error_sound(kind, r);
+    }
+    aborted_sound(kind, r)
 }
 
 pub fn sound(kind: u8, r: Record) -> bool
     ensures { λ b. ⌜ b ≡ sound kind r ⌝ }
 {
-    let zero = !(r.step == Record::DORMANT) | zeroed(r);
-    let flags = flags_fit(kind, r.step, r.flags);
-    let code = code_sound(kind, r);
-    let request = request_sound(kind, r);
-    let step = step_sound(kind, r);
-    zero & flags & code & request & step & times_sound(kind, r)
+    let step = r.step;
+    match step {
+        Record::DORMANT => zeroed(r),
+        Record::EXECUTING => executing_sound(kind, r),
+        Record::DONE => done_sound(kind, r),
+        Record::ERROR => error_sound(kind, r),
+        Record::ABORTING => (5 <= kind) & executing_sound(kind, r),
+        Record::ABORTED => aborted_sound(kind, r),
+        Record::RESETTING => resetting_sound(kind, r),
+        _ => false,
+    }
 }

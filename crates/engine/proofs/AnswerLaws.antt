@@ -24,6 +24,13 @@ use Rattle.engine.specs.declared.answer.Scanned.{Scanned}
 use Rattle.engine.specs.declared.answer.Scanned.the-variants.{Events, Refused as ScanRefused}
 use Rattle.engine.proofs.ScanAccepted.{verify-passes}
 
+-- the number and the place of a refusal are its own
+pub table-parts : (table : Checked) (m : ℕ) (p : Place) (number : ℕ) (place : Place) → table ≡ TableRefused m p → table ≡ TableRefused number place → (m ≡ number) × (p ≡ place)
+table-parts table m p number place e f = (cc, cc)
+
+pub verdict-parts : (verdict : Verdict) (m : ℕ) (p : Place) (number : ℕ) (place : Place) → verdict ≡ Failed m p → verdict ≡ Failed number place → (m ≡ number) × (p ≡ place)
+verdict-parts verdict m p number place e f = (cc, cc)
+
 -- `table` is what the table checks answered
 module _ (image state : List ℕ) (table : Checked) (checked : table ≡ checkOf image) where
   abbrev Freshens : Freshened → List ℕ → Type 0

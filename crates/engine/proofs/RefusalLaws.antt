@@ -1,4 +1,4 @@
--- The bounds of what fresh and scan answer: a number of at most 41, a place of at most 64, at most 128 events. For the packing of answers.
+-- The bounds of checks 20 to 41: a number of 1 to 41, a place of at most the number of blocks. For the packing of answers.
 use Prim.Native.Nat.{ℕ, suc, _+_, _*_, _≤_}
 use native.Mathlib.Omega.{arith}
 use mathlib.Core.Bool.{Bool}

@@ -11,7 +11,7 @@ use lib.ListN.{length, take, drop, getD, length-append}
 use lib.Seq.{getD-take, getD-drop, take-at, length-take-le}
 use Rattle.table.specs.Blocks.{Block}
 use Rattle.table.specs.declared.blocks.Wire.{Wire}
-use Rattle.layout.specs.Buffer.{recordLength, reportLength, eventLength, part, put}
+use Rattle.layout.specs.Buffer.{eventLength, put}
 use Rattle.layout.specs.RecordLayout.{flagsOf, encodeRecord, decodeRecord}
 use Rattle.layout.specs.ReportLayout.{encodeReport}
 use Rattle.layout.specs.EventLayout.{encodeEvent, encodeEvents}

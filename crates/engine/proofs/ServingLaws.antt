@@ -4,7 +4,7 @@ use native.Mathlib.Numerals.{add-one}
 use native.Mathlib.Omega.{arith}
 use mathlib.Core.Bool.{true}
 use mathlib.Core.List.{List, [], _∷_}
-use mathlib.Core.Path.{_≡_, refl, ap, sym, _∙_}
+use mathlib.Core.Path.{_≡_, refl, ap, _∙_}
 use lib.Dec.{leb}
 use lib.ListN.{length}
 use borrow.Author.Tests.{leb-true}
@@ -15,7 +15,6 @@ use Rattle.table.specs.declared.blocks.Wire.{Wire}
 use Rattle.table.proofs.AcceptedLaws.{accepted-blocks, accepted-few, accepted-start, accepted-abort}
 use Rattle.layout.specs.Buffer.{recordLength, entryLength, reportLength, eventLength, part, put}
 use Rattle.layout.specs.RecordLayout.{decodeRecord}
-use Rattle.layout.specs.EntryLayout.{entryBytes}
 use Rattle.layout.specs.ReportLayout.{encodeReport}
 use Rattle.layout.specs.EventLayout.{encodeEvents}
 use Rattle.layout.proofs.BufferLaws.{put-length}

@@ -1,8 +1,7 @@
 -- Checks 21 and 31 as loops: what is left of the blocks gives the whole verdict. One law for both, over the test of a block and the check's number:
--- for the proofs of `check_state` and `check_frame`. And the verdict of `verify`, by the first check that fails.
-use Prim.Native.Nat.{ℕ, zero, suc, _+_, _*_, _≤_, _<_}
+-- for the proofs of `check_state` and `check_frame`.
+use Prim.Native.Nat.{ℕ, suc, _+_, _≤_, _<_}
 use native.Mathlib.Numerals.{add-one}
-use native.Mathlib.Omega.{arith}
 use mathlib.Core.Bool.{Bool, true, false}
 use mathlib.Core.List.{List, [], _∷_}
 use mathlib.Core.Path.{_≡_, refl, ap, sym, _∙_}

@@ -18,7 +18,7 @@ pub record FreshResult : Type 0 where
   pub answer : Freshened
   pub state : List ℕ
 
--- "a fresh state made, answer[s] the number of blocks"; a refusal leaves the buffer untouched
+-- "An accepted table check, and a fresh state made, answer the number of blocks." A refusal leaves the buffer untouched.
 abbrev pub freshBy : Verdict → ℕ → List ℕ → FreshResult
 freshBy Passed n state = record { answer = Blocks n; state = replicate (length state) 0 }
 freshBy (Failed number place) n state = record { answer = Refused number place; state = state }

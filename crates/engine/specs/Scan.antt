@@ -22,7 +22,7 @@ pub record ScanResult : Type 0 where
   pub report : List ℕ
   pub journal : List ℕ
 
--- a refusal leaves every lent buffer untouched
+-- "Nothing is written before the last check": a refusal leaves every lent buffer untouched
 abbrev pub untouched : ℕ → Place → List ℕ → List ℕ → List ℕ → ScanResult
 untouched number place state report journal = record { answer = Refused number place; state = state; report = report; journal = journal }
 

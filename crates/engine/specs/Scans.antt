@@ -38,7 +38,7 @@ pub data Framed : Scans → Type 0 where
   noFrame : Framed none
   andFrame : {h : Scans} {g : Given} → Framed h → Bytes (g .frame) → Framed (h andThen g)
 
--- "an earlier block gives this scan's flag, and a later one or itself the last scan's": the flags that the block at index k reads
+-- "a block earlier in the chain gives this scan's flag, and a later one or itself the last scan's": the flags that the block at index k reads
 unfoldable pub flagsSeen : ℕ → List ℕ → List ℕ → ℕ → Flags
 flagsSeen k before after i = flagsIn (cond (ltb i k) after before) i
 

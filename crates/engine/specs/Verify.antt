@@ -12,29 +12,29 @@ use Rattle.layout.specs.Buffer.{recordLength, entryLength, reportLength, eventL
 use Rattle.layout.specs.RecordLayout.{soundBytes}
 use Rattle.layout.specs.EntryLayout.{entryBytes}
 
--- "20 length not 32 × blocks"
+-- 20: "length not 32 × blocks"
 abbrev pub stateLength : List Block → List ℕ → Verdict → Verdict
 stateLength blocks state below = require (eqb (length state) (recordLength * length blocks)) 20 Header below
 
--- "21 unsound (not for fresh); first position": the blocks from index i on
+-- 21: "unsound (not for fresh); first position": the blocks from index i on
 unfoldable pub stateSound : ℕ → List Block → List ℕ → Verdict
 stateSound i [] state = Passed
 stateSound i (b ∷ bs) state = require (soundBytes (b .kind) (part recordLength i state)) 21 (Position (suc i)) (stateSound (suc i) bs state)
 
--- "30 length not 56 × blocks"
+-- 30: "length not 56 × blocks"
 abbrev pub frameLength : List Block → List ℕ → Verdict → Verdict
 frameLength blocks frame below = require (eqb (length frame) (entryLength * length blocks)) 30 Header below
 
--- "31 an entry not as above; first position": n entries from index i on
+-- 31: "an entry not as above; first position": the entries of the blocks from index i on
 unfoldable pub frameForm : ℕ → List Block → List ℕ → Verdict
 frameForm i [] frame = Passed
 frameForm i (b ∷ bs) frame = require (entryBytes (part entryLength i frame)) 31 (Position (suc i)) (frameForm (suc i) bs frame)
 
--- "40 length not 12 × blocks"
+-- 40: "length not 12 × blocks"
 abbrev pub reportLengthIs : List Block → List ℕ → Verdict → Verdict
 reportLengthIs blocks report below = require (eqb (length report) (reportLength * length blocks)) 40 Header below
 
--- "41 length under 16 × blocks": two events a block
+-- 41: "length under 16 × blocks": two events a block
 abbrev pub journalLength : List Block → List ℕ → Verdict → Verdict
 journalLength blocks journal below = require (leb (2 * eventLength * length blocks) (length journal)) 41 Header below
 

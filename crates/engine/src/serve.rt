@@ -4,7 +4,7 @@ use block::call::CallResult;
 use table::blocks::Wire;
 ghost use mathlib.Core.List.{[]};
 ghost use mathlib.Core.Path.{_≡_};
-ghost use Prim.Native.Nat.{_+_, _*_, _≤_, _<_};
+ghost use Prim.Native.Nat.{_+_, _*_, _≤_};
 ghost use lib.ListN.{length};
 ghost use Rattle.block.specs.CallResult.{outcomeOf};
 ghost use Rattle.layout.specs.Buffer.{put};

@@ -3,7 +3,7 @@ use Prim.Native.Nat.{ℕ, _+_, _*_, _≤_, _<_}
 use mathlib.Core.Path.{_≡_, refl, ap}
 use mathlib.Core.List.{List}
 use native.Mathlib.Omega.{arith}
-use lib.ListN.{length, getD}
+use lib.ListN.{length}
 use Rattle.table.specs.Place.{Answer, value, refusal}
 use Rattle.table.specs.Check.{checkOf, checkedAnswer}
 use Rattle.table.specs.Lookup.{findOf, foundAnswer}
@@ -21,6 +21,7 @@ use Rattle.table.proofs.AcceptedLaws.{accepted-blocks}
 use Rattle.engine.specs.Fresh.{freshBy, freshAfter, freshOf, freshAnswer}
 use Rattle.engine.specs.Scan.{scanBy, scanAfter, scanBlocks, scanOf, scanAnswer}
 use Rattle.engine.specs.Verify.{stateLength, verifyOf}
+use Rattle.engine.specs.Scans.{Bytes}
 use Rattle.engine.specs.declared.answer.Freshened.the-variants.{Blocks as FreshBlocks}
 use Rattle.engine.specs.declared.answer.Scanned.{Scanned}
 use Rattle.engine.specs.declared.answer.Scanned.the-variants.{Events, Refused as ScanRefused}
@@ -43,10 +44,6 @@ packed-injective (refusal m p) (refusal n q) h k e =
     let x : m ≡ n = s .0 in
     let y : p ≡ q = s .1 in
     cc
-
--- an image of bytes
-abbrev pub Bytes : List ℕ → Type 0
-Bytes image = (i : ℕ) → getD image i 0 < 256
 
 -- what the entry points answer can be packed
 pub check-packable : (image : List ℕ) → Bytes image → Packable (checkedAnswer (checkOf image))

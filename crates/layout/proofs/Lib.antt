@@ -5,3 +5,4 @@ pub mod RecordLaws
 pub mod ReportLaws
 pub mod EventLaws
 pub mod EntryLaws
+pub mod CheckLaws

@@ -12,7 +12,7 @@ use Rattle.block.specs.declared.record.Record.{Record}
 abbrev pub bit : Bool → ℕ
 bit b = cond b 1 0
 
--- bit n of a byte
+-- the bit of a byte that has this weight
 abbrev pub bitOf : ℕ → ℕ → Bool
 bitOf b weight = eqb (b / weight % 2) 1
 

@@ -3,10 +3,14 @@ use block::entry::Entry;
 use block::entry::Inputs;
 use block::entry::Piece;
 ghost use mathlib.Core.Path.{_≡_};
+ghost use mathlib.Core.Bool.{_&&_};
 ghost use mathlib.Core.List.{_++_};
 ghost use Prim.Native.Nat.{_+_, _≤_};
+ghost use lib.Dec.{eqb, ltb, leb};
 ghost use lib.ListN.{length, take, drop};
-ghost use Rattle.layout.specs.Buffer.{put};
+ghost use Rattle.words.specs.Word.{numberAt};
+ghost use Rattle.block.specs.Entry.{codeFits, pieceForm, pieceFits};
+ghost use Rattle.layout.specs.Buffer.{byteAt, put};
 ghost use Rattle.layout.specs.EntryLayout.{inputsByte, inputsOf, encodePiece, decodePiece, encodePieces, encodeEntry, decodeEntry, entryBytes};
 
 pub fn inputs_of(b: u8) -> Inputs
@@ -54,19 +58,54 @@ pub fn entry_of(s: &[u8]) -> Entry
     }
 }
 
-// Check 31 of one entry: the unnamed bytes and bits, then its fields.
+// What stands before the pieces: the unnamed bytes and bits, then the fields.
+fn head_fits(s: &[u8]) -> bool
+    requires { ⌜ 56 ≤ length (now s) ⌝ }
+    ensures { λ r. ⌜ r ≡ ltb (byteAt (now (s .entry)) 0) 4 && eqb (byteAt (now (s .entry)) 6) 0 && eqb (byteAt (now (s .entry)) 7) 0 && (leb (byteAt (now (s .entry)) 1) 4 && leb (byteAt (now (s .entry)) 2) 2 && leb (byteAt (now (s .entry)) 3) 1 && codeFits (byteAt (now (s .entry)) 2) (numberAt 2 (now (s .entry)) 4)) ⌝ }
+{
+    let form = (s[0] < 4) & (words::u16_at(s, 6) == 0);
+    let replies = (s[1] <= 4) & (s[2] <= 2) & (s[3] <= 1);
+    form & (replies & block::entry::code_fits(s[2], words::u16_at(s, 4)))
+}
+
+// A piece of the count: its reply and the zero byte after it, then its code.
+fn piece_form(s: &[u8], at: usize) -> bool
+    requires { ⌜ at + 8 ≤ length (now s) ⌝ }
+    ensures { λ r. ⌜ r ≡ eqb (byteAt (now (s .entry)) (at + 1)) 0 && pieceForm (decodePiece (now (s .entry)) at) ⌝ }
+{
+    (words::u16_at(s, at) <= 2) & block::entry::code_fits(s[at], words::u16_at(s, at + 2))
+}
+
+// Piece `i` of an entry that has `count` of them, at its place; a piece past the count is zero.
+fn piece_fits(s: &[u8], at: usize, i: u8, count: u8) -> bool
+    requires { ⌜ at + 8 ≤ length (now s) ⌝ }
+    ensures { λ r. ⌜ r ≡ eqb (byteAt (now (s .entry)) (at + 1)) 0 && pieceFits count i (decodePiece (now (s .entry)) at) ⌝ }
+{
+    if i < count {
+        return piece_form(s, at);
+    }
+    words::u64_at(s, at) == 0
+}
+
+// Check 31 of one entry: its head, then each piece.
 pub fn entry_bytes(s: &[u8]) -> bool
     requires { ⌜ 56 ≤ length (now s) ⌝ }
     ensures { λ r. ⌜ r ≡ entryBytes (now (s .entry)) ⌝ }
 {
-    let form = (s[0] < 4)
-        & (s[6] == 0)
-        & (s[7] == 0)
-        & (s[25] == 0)
-        & (s[33] == 0)
-        & (s[41] == 0)
-        & (s[49] == 0);
-    form & block::entry::entry_fits(entry_of(s))
+    if !head_fits(s) {
+        return false;
+    }
+    let count = s[1];
+    if !piece_fits(s, 24, 0, count) {
+        return false;
+    }
+    if !piece_fits(s, 32, 1, count) {
+        return false;
+    }
+    if !piece_fits(s, 40, 2, count) {
+        return false;
+    }
+    piece_fits(s, 48, 3, count)
 }
 
 fn inputs_byte(i: Inputs) -> u8

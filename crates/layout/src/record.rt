@@ -3,10 +3,13 @@ use block::record::Flags;
 use block::record::Record;
 use clock::Timer;
 ghost use mathlib.Core.Path.{_≡_};
+ghost use mathlib.Core.Bool.{_&&_};
 ghost use Prim.Native.Nat.{_+_, _<_, _≤_};
+ghost use lib.Dec.{eqb};
 ghost use lib.ListN.{length};
+ghost use Rattle.words.specs.Word.{numberAt};
 ghost use Rattle.layout.specs.Buffer.{put};
-ghost use Rattle.layout.specs.RecordLayout.{bit, flagsByte, flagsOf, encodeRecord, decodeRecord, soundBytes};
+ghost use Rattle.layout.specs.RecordLayout.{bit, flagsByte, flagsOf, encodeRecord, decodeRecord, recordForm, soundBytes};
 
 pub fn bit(b: bool) -> u8
     ensures { λ r. ⌜ r ≡ bit b ⌝ }
@@ -107,11 +110,35 @@ pub fn put_record(s: &mut [u8], at: usize, r: Record)
     bytes::copy(&b, &mut s[at..]);
 }
 
-// Check 21 of one record: the unnamed bytes and bits, then its fields.
+// The unnamed bytes and bits, and the request.
+fn record_form(s: &[u8]) -> bool
+    requires { ⌜ 32 ≤ length (now s) ⌝ }
+    ensures { λ r. ⌜ r ≡ recordForm (now (s .entry)) ⌝ }
+{
+    (s[1] < 16) & (words::u16_at(s, 2) <= 1) & (words::u16_at(s, 10) == 0)
+}
+
+// All 32 bytes are zero.
+fn all_zero(s: &[u8]) -> bool
+    requires { ⌜ 32 ≤ length (now s) ⌝ }
+    ensures { λ r. ⌜ r ≡ eqb (numberAt 8 (now (s .entry)) 0) 0 && eqb (numberAt 8 (now (s .entry)) 8) 0 && eqb (numberAt 8 (now (s .entry)) 16) 0 && eqb (numberAt 8 (now (s .entry)) 24) 0 ⌝ }
+{
+    (words::u64_at(s, 0) == 0)
+        & (words::u64_at(s, 8) == 0)
+        & (words::u64_at(s, 16) == 0)
+        & (words::u64_at(s, 24) == 0)
+}
+
+// Check 21 of one record: Dormant is all zero; else the form, then the fields.
 pub fn sound_bytes(kind: u8, s: &[u8]) -> bool
     requires { ⌜ 32 ≤ length (now s) ⌝ }
     ensures { λ r. ⌜ r ≡ soundBytes kind (now (s .entry)) ⌝ }
 {
-    let form = (s[1] < 16) & (s[2] <= 1) & (s[3] == 0) & (s[10] == 0) & (s[11] == 0);
-    form & block::sound::sound(kind, record_of(s))
+    if s[0] == Record::DORMANT {
+        return all_zero(s);
+    }
+    if !record_form(s) {
+        return false;
+    }
+    block::sound::sound(kind, record_of(s))
 }

@@ -41,9 +41,10 @@ blocksIn image chain (slot ∷ slots) = blockIn image chain slot ∷ blocksIn im
 abbrev pub blocksOf : List ℕ → List Block
 blocksOf image = blocksIn image (chainOf image) (chainOf image)
 
--- block i of some blocks, from 0
+-- no block
 abbrev pub noBlock : Block
 noBlock = record { kind = 0; tag = []; start = fromFrame; abort = fromFrame }
 
+-- block i of some blocks, from 0
 abbrev pub blockAt : List Block → ℕ → Block
 blockAt blocks i = getD blocks i noBlock

@@ -12,7 +12,7 @@ use Rattle.table.specs.declared.place.Place.the-variants.{Header}
 use Rattle.table.specs.declared.place.Verdict.{Verdict}
 use Rattle.table.specs.declared.place.Verdict.the-variants.{Passed}
 
--- "1 under 4 bytes; 2 version or byte 3; 3 N; 4 length not 4 + 16 × N"
+-- 1: "under 4 bytes"; 2: "version or byte 3"; 3: "N"; 4: "length not 4 + 16 × N"
 unfoldable pub headerCheck : List ℕ → Verdict
 headerCheck image =
     require (leb 4 (length image)) 1 Header

@@ -20,12 +20,12 @@ unfoldable pub tagPosition : List ℕ → List ℕ → ℕ → List ℕ → ℕ
 tagPosition image tag p [] = 0
 tagPosition image tag p (slot ∷ slots) = cond (sameBytes (tagOf image slot) tag) p (tagPosition image tag (suc p) slots)
 
--- "51 no such tag"; "A found tag answers its position"
+-- 51: "no such tag"; "A found tag answers its position"
 abbrev pub foundAt : ℕ → Found
 foundAt zero = Refused 51 Header
 foundAt (suc p) = At (suc p)
 
--- "50 not eight bytes in tag form"
+-- 50: "not eight bytes in tag form"
 abbrev pub tagChecks : List ℕ → List ℕ → Found
 tagChecks image tag = cond (tagForm tag) (foundAt (tagPosition image tag 1 (chainOf image))) (Refused 50 Header)
 

@@ -26,7 +26,7 @@ tagAmong image tag (k ∷ earlier) = sameBytes (tagOf image k) tag || tagAmong i
 abbrev pub noWire : ℕ → ℕ → Bool
 noWire slot code = eqb slot 0 && eqb code 0
 
--- "Otherwise the slot is on the chain and the code has bits 0-1 = flag .. and bit 7 = inverted, others zero."
+-- "Otherwise the slot is on the chain and the code has bits 0-1 = flag ... and bit 7 = inverted, others zero."
 abbrev pub wireOk : List ℕ → ℕ → ℕ → Bool
 wireOk chain slot code = cond (eqb slot 0) (eqb code 0) (among slot chain && ltb (code % 128) 4)
 

@@ -21,7 +21,7 @@ pub data Walked : Type 0 where
 -- The walk by its rules. `met` are the slots met so far, in order; the next link names slot `at`, and stands at `from`: the header
 -- for the head, else the slot that holds it.
 pub data Walk (image : List ℕ) : List ℕ → Place → ℕ → Walked → Type 0 where
-  -- "to the zero that ends it"
+  -- "to the zero that ends it"; "Head 0 is a table of no blocks."
   ends : {met : List ℕ} {from : Place} {at : ℕ} → at ≡ 0 → Walk image met from at (Met met)
   -- 5: "head, or the next of a slot met on the walk, above N; slot holding it, 0 for head"
   above : {met : List ℕ} {from : Place} {at : ℕ} → slotCount image < at → Walk image met from at (Stopped 5 from)

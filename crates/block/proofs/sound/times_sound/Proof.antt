@@ -1,8 +1,12 @@
--- `times_sound` meets its contract: the code is the definition.
+-- `times_sound` meets its contract: no stored time, or the code is the definition.
 use Rattle.block.specs.Sound.{timesSound}
+use Rattle.block.proofs.SoundSteps.{times-none}
 use borrow.Author.Needs.{needs}
 use Rattle.block.proofs.sound.times_sound.Statement.{statement}
 use Rattle.block.proofs.sound.times_sound.Tie as tie
+
+returns : tie.Need-returns
+returns c = let a = c .before .before .before .before .args in times-none (a .kind) (a .r) (c .if1 .taken)
 
 is-edge-requires : tie.Need-is-edge-requires
 is-edge-requires c κs = search needs
@@ -13,10 +17,11 @@ has-time-limit-requires c κs = search needs
 has-time-out-requires : tie.Need-has-time-out-requires
 has-time-out-requires c κs = search needs
 
-returns : tie.Need-returns
+returns-2 : tie.Need-returns-2
 unfolding timesSound
-returns c = rw (c .before .before .before .before .before .is-edge .ensures, c .before .before .has-time-limit .ensures, c .has-time-out .ensures)
+returns-2 c = rw (c .before .before .before .before .is-edge .ensures, c .before .before .has-time-limit .ensures, c .has-time-out .ensures)
 
 pub times-sound-spec : {M : Type 1} → statement M
 times-sound-spec =
-    tie.close (tie.spec is-edge-requires has-time-limit-requires has-time-out-requires returns)
+    tie.close
+    (tie.spec returns is-edge-requires has-time-limit-requires has-time-out-requires returns-2)

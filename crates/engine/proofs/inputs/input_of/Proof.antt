@@ -1,11 +1,10 @@
 -- `inputs::input_of` meets its contract: the bit of the frame, or the flag byte of the record at the position.
 use Prim.Native.Nat.{_-_}
-use mathlib.Core.Bool.{Bool, not}
+use mathlib.Core.Bool.{not}
 use mathlib.Core.Path.{_≡_, ap, _∙_}
-use native.Mathlib.Omega.{arith}
 use borrow.Author.Needs.{needs}
 use borrow.Author.Tests.{eq-eqb, ne-eqb}
-use Rattle.engine.specs.Inputs.{flagOf}
+use Rattle.engine.specs.Inputs.{flagsIn, flagOf}
 use Rattle.engine.proofs.ServeLaws.{flags-at}
 use Rattle.engine.proofs.inputs.input_of.Statement.{statement}
 use Rattle.engine.proofs.inputs.input_of.Tie as tie
@@ -38,16 +37,16 @@ returns-2 : tie.Need-returns-2
 returns-2 c =
     let a = c .before .before .before .before .before .before .args in
     let i = a .w .position - 1 in
-    let flags = c .before .before .flags-of .ensures ∙ flags-at (a .state .now) i in
-    let flag = c .before .flag-of .ensures ∙ ap (flagOf (a .w .flag)) flags in
+    let flags : c .before .before .flags-of .result ≡ flagsIn (a .state .now) i = c .before .before .flags-of .ensures ∙ flags-at (a .state .now) i in
+    let flag : c .before .flag-of .result ≡ flagOf (a .w .flag) (flagsIn (a .state .now) i) = c .before .flag-of .ensures ∙ ap (flagOf (a .w .flag)) flags in
     rw (ne-eqb _ _ (c .before .before .before .before .if1 .left), c .if2 .taken) (ap not flag)
 
 returns-3 : tie.Need-returns-3
 returns-3 c =
     let a = c .before .before .before .before .before .before .args in
     let i = a .w .position - 1 in
-    let flags = c .before .before .flags-of .ensures ∙ flags-at (a .state .now) i in
-    let flag = c .before .flag-of .ensures ∙ ap (flagOf (a .w .flag)) flags in
+    let flags : c .before .before .flags-of .result ≡ flagsIn (a .state .now) i = c .before .before .flags-of .ensures ∙ flags-at (a .state .now) i in
+    let flag : c .before .flag-of .result ≡ flagOf (a .w .flag) (flagsIn (a .state .now) i) = c .before .flag-of .ensures ∙ ap (flagOf (a .w .flag)) flags in
     rw (ne-eqb _ _ (c .before .before .before .before .if1 .left), c .if2 .left) flag
 
 pub input-of-spec : {M : Type 1} → statement M

@@ -1,6 +1,7 @@
 -- `serve::serve` meets its contract: the call, then its record, its report entry and its events, each written in its own buffer.
 use Prim.Native.Nat.{_*_}
 use borrow.Author.Needs.{needs}
+use native.Mathlib.Omega.{arith}
 use Rattle.block.specs.CallResult.{outcomeOf}
 use Rattle.layout.specs.ReportLayout.{encodeReport}
 use Rattle.layout.proofs.BufferLaws.{put-front}
@@ -10,22 +11,22 @@ use Rattle.engine.proofs.serve.serve.Statement.{statement}
 use Rattle.engine.proofs.serve.serve.Tie as tie
 
 call-at-requires : tie.Need-call-at-requires
-call-at-requires c κs = search needs
+call-at-requires c κs = c .before .before .before .before .before .pre .0
 
 mul-put-record : tie.Need-mul-put-record
-mul-put-record c = search needs
+mul-put-record c = omega (arith, c .before .before .before .before .before .before .before .before .pre .0 .few)
 
 put-record-requires : tie.Need-put-record-requires
-put-record-requires c κs = search needs
+put-record-requires c κs = c .before .before .before .before .before .before .before .before .pre .0 .own
 
 mul-own : tie.Need-mul-own
-mul-own c = search needs
+mul-own c = omega (arith, c .before .before .before .before .before .before .before .before .before .before .before .pre .0 .few)
 
 sub-write-report : tie.Need-sub-write-report
-sub-write-report c = search needs
+sub-write-report c = omega (arith, c .before .before .before .before .before .before .before .before .before .before .before .pre .1 .0)
 
 part-write-report-start : tie.Need-part-write-report-start
-part-write-report-start c = search needs
+part-write-report-start c = omega (arith, c .before .before .before .before .before .before .before .before .before .before .before .pre .1 .0)
 
 part-write-report-end : tie.Need-part-write-report-end
 part-write-report-end c = search needs
@@ -34,13 +35,13 @@ write-report-requires : tie.Need-write-report-requires
 write-report-requires c κs = search needs
 
 add-append-events : tie.Need-add-append-events
-add-append-events c = search needs
+add-append-events c = omega (arith, c .before .before .before .before .before .before .before .before .before .before .before .before .before .before .before .before .pre .0 .few)
 
 cast-append-events : tie.Need-cast-append-events
-cast-append-events c = search needs
+cast-append-events c = omega (arith, c .before .before .before .before .before .before .before .before .before .before .before .before .before .before .before .before .pre .0 .few)
 
 append-events-requires : tie.Need-append-events-requires
-append-events-requires c κs = search needs
+append-events-requires c κs = c .before .before .before .before .before .before .before .before .before .before .before .before .before .before .before .before .pre .1 .1
 
 same-length : tie.Need-same-length
 same-length c = search needs

@@ -7,7 +7,6 @@ use native.Mathlib.Nat.{add-sub-cancel-left}
 use borrow.Author.Tests.{not-true, not-false}
 use Rattle.table.specs.Blocks.{blocksOf, blockAt}
 use Rattle.table.proofs.AcceptedLaws.{accepted-blocks}
-use Rattle.layout.specs.RecordLayout.{soundBytes}
 use Rattle.engine.proofs.VerifyLaws.{Left, left-failed, left-on, left-end, stateTest, stateCheck, state-each}
 use Rattle.engine.proofs.verify.check_state.Statement.{statement}
 use Rattle.engine.proofs.verify.check_state.Tie as tie

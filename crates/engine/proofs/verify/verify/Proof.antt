@@ -1,7 +1,11 @@
 -- `verify::verify` meets its contract: the checks from the top down, each with those above it passed.
-use mathlib.Core.Path.{refl, sym, _∙_}
+use Prim.Native.Nat.{_*_}
+use mathlib.Core.Bool.{true, false}
+use mathlib.Core.Path.{_≡_, sym, _∙_}
 use native.Mathlib.Omega.{arith}
 use borrow.Author.Needs.{needs}
+use lib.Dec.{leb}
+use lib.ListN.{length}
 use borrow.Author.Tests.{eq-eqb, ne-eqb, le-leb, lt-leb}
 use Rattle.table.proofs.AcceptedLaws.{accepted-blocks}
 use Rattle.engine.specs.Verify.{verifyOf}
@@ -103,6 +107,7 @@ unfolding verifyOf
 returns-6 c =
     let a = c .before .before .before .before .before .before .before .before .before .before .before .before .before .before .before .args in
     let n = accepted-blocks (a .image .now) (a .count) (c .before .before .before .before .before .before .before .before .before .before .before .before .before .before .before .pre .answer) in
+    let short : leb (16 * a .count) (length (a .journal .now)) ≡ false = lt-leb (16 * a .count) (length (a .journal .now)) (c .if4 .taken) in
     rw (
       n,
       eq-eqb _ _ (c .before .before .before .before .before .before .before .before .before .if1 .left),
@@ -110,7 +115,7 @@ returns-6 c =
       eq-eqb _ _ (c .before .before .before .before .before .if2 .left),
       sym (c .before .before .before .before .check-frame .ensures _ n) ∙ c .before .before .enum-told3 .given .1,
       eq-eqb _ _ (c .before .if3 .left),
-      lt-leb _ _ (c .if4 .taken),
+      short,
     )
 
 returns-7 : tie.Need-returns-7
@@ -118,6 +123,7 @@ unfolding verifyOf
 returns-7 c =
     let a = c .before .before .before .before .before .before .before .before .before .before .before .before .before .before .before .args in
     let n = accepted-blocks (a .image .now) (a .count) (c .before .before .before .before .before .before .before .before .before .before .before .before .before .before .before .pre .answer) in
+    let room : leb (16 * a .count) (length (a .journal .now)) ≡ true = le-leb (16 * a .count) (length (a .journal .now)) (c .if4 .left) in
     rw (
       n,
       eq-eqb _ _ (c .before .before .before .before .before .before .before .before .before .if1 .left),
@@ -125,7 +131,7 @@ returns-7 c =
       eq-eqb _ _ (c .before .before .before .before .before .if2 .left),
       sym (c .before .before .before .before .check-frame .ensures _ n) ∙ c .before .before .enum-told3 .given .1,
       eq-eqb _ _ (c .before .if3 .left),
-      le-leb _ _ (c .if4 .left),
+      room,
     )
 
 pub verify-spec : {M : Type 1} → statement M

@@ -1,58 +1,81 @@
--- `entry::entry_bytes` meets its contract: the form as defined, and the test of the entry read.
-use native.Mathlib.Omega.{arith}
-use mathlib.Core.Path.{_≡_, ap, _∙_}
-use mathlib.Core.Bool.{Bool, _&&_}
-use Rattle.block.specs.Entry.{entryFits}
-use Rattle.layout.specs.EntryLayout.{decodeEntry, entryForm, entryBytes}
+-- `entry::entry_bytes` meets its contract: the head, then the four pieces, each with its own return.
+use mathlib.Core.Path.{_≡_, sym, _∙_}
+use mathlib.Core.Bool.{true, false}
+use borrow.Author.Tests.{not-true, not-false}
+use Rattle.layout.proofs.CheckLaws.{headTest, pieceTest, entry-head, entry-pieces}
 use borrow.Author.Needs.{needs}
 use Rattle.layout.proofs.entry.entry_bytes.Statement.{statement}
 use Rattle.layout.proofs.entry.entry_bytes.Tie as tie
 
-shared-slice-read-form : tie.Need-shared-slice-read-form
-shared-slice-read-form c = omega arith
-
-shared-slice-read-form-2 : tie.Need-shared-slice-read-form-2
-shared-slice-read-form-2 c = omega arith
-
-shared-slice-read-form-3 : tie.Need-shared-slice-read-form-3
-shared-slice-read-form-3 c = omega arith
-
-shared-slice-read-form-4 : tie.Need-shared-slice-read-form-4
-shared-slice-read-form-4 c = omega arith
-
-shared-slice-read-form-5 : tie.Need-shared-slice-read-form-5
-shared-slice-read-form-5 c = omega arith
-
-shared-slice-read-form-6 : tie.Need-shared-slice-read-form-6
-shared-slice-read-form-6 c = omega arith
-
-shared-slice-read-form-7 : tie.Need-shared-slice-read-form-7
-shared-slice-read-form-7 c = omega arith
-
-entry-of-requires : tie.Need-entry-of-requires
-entry-of-requires c κs = search needs
-
-entry-fits-requires : tie.Need-entry-fits-requires
-entry-fits-requires c κs = search needs
+head-fits-requires : tie.Need-head-fits-requires
+head-fits-requires c κs = search needs
 
 returns : tie.Need-returns
-unfolding entryBytes entryForm
 returns c =
+    let s = c .before .before .before .args .s .now in
+    let head : headTest s ≡ false = sym (c .before .head-fits .ensures) ∙ not-true _ (c .if1 .taken) in
+    entry-head s head
+
+shared-slice-read-count : tie.Need-shared-slice-read-count
+shared-slice-read-count c = search needs
+
+piece-fits-requires : tie.Need-piece-fits-requires
+piece-fits-requires c κs = search needs
+
+returns-2 : tie.Need-returns-2
+returns-2 c =
+    let s = c .before .before .before .before .before .before .args .s .now in
+    let head : headTest s ≡ true = sym (c .before .before .before .before .head-fits .ensures) ∙ not-false _ (c .before .before .before .if1 .left) in
+    let first : pieceTest s 24 0 ≡ false = sym (c .before .piece-fits .ensures) ∙ not-true _ (c .if2 .taken) in
+    rw first at (entry-pieces s head)
+
+piece-fits-requires-2 : tie.Need-piece-fits-requires-2
+piece-fits-requires-2 c κs = search needs
+
+returns-3 : tie.Need-returns-3
+returns-3 c =
+    let s = c .before .before .before .before .before .before .before .before .args .s .now in
+    let head : headTest s ≡ true = sym (c .before .before .before .before .before .before .head-fits .ensures) ∙ not-false _ (c .before .before .before .before .before .if1 .left) in
+    let first : pieceTest s 24 0 ≡ true = sym (c .before .before .before .piece-fits .ensures) ∙ not-false _ (c .before .before .if2 .left) in
+    let second : pieceTest s 32 1 ≡ false = sym (c .before .piece-fits2 .ensures) ∙ not-true _ (c .if3 .taken) in
+    rw (first, second) at (entry-pieces s head)
+
+piece-fits-requires-3 : tie.Need-piece-fits-requires-3
+piece-fits-requires-3 c κs = search needs
+
+returns-4 : tie.Need-returns-4
+returns-4 c =
     let s = c .before .before .before .before .before .before .before .before .before .before .args .s .now in
-    let fields : c .entry-fits .result ≡ entryFits (decodeEntry s) = c .entry-fits .ensures ∙ ap entryFits (c .before .entry-of .ensures) in
-    ap (λ (b : Bool). entryForm s && b) fields
+    let head : headTest s ≡ true = sym (c .before .before .before .before .before .before .before .before .head-fits .ensures) ∙ not-false _ (c .before .before .before .before .before .before .before .if1 .left) in
+    let first : pieceTest s 24 0 ≡ true = sym (c .before .before .before .before .before .piece-fits .ensures) ∙ not-false _ (c .before .before .before .before .if2 .left) in
+    let second : pieceTest s 32 1 ≡ true = sym (c .before .before .before .piece-fits2 .ensures) ∙ not-false _ (c .before .before .if3 .left) in
+    let third : pieceTest s 40 2 ≡ false = sym (c .before .piece-fits3 .ensures) ∙ not-true _ (c .if4 .taken) in
+    rw (first, second, third) at (entry-pieces s head)
+
+piece-fits-requires-4 : tie.Need-piece-fits-requires-4
+piece-fits-requires-4 c κs = search needs
+
+returns-5 : tie.Need-returns-5
+returns-5 c =
+    let s = c .before .before .before .before .before .before .before .before .before .before .before .args .s .now in
+    let head : headTest s ≡ true = sym (c .before .before .before .before .before .before .before .before .before .head-fits .ensures) ∙ not-false _ (c .before .before .before .before .before .before .before .before .if1 .left) in
+    let first : pieceTest s 24 0 ≡ true = sym (c .before .before .before .before .before .before .piece-fits .ensures) ∙ not-false _ (c .before .before .before .before .before .if2 .left) in
+    let second : pieceTest s 32 1 ≡ true = sym (c .before .before .before .before .piece-fits2 .ensures) ∙ not-false _ (c .before .before .before .if3 .left) in
+    let third : pieceTest s 40 2 ≡ true = sym (c .before .before .piece-fits3 .ensures) ∙ not-false _ (c .before .if4 .left) in
+    c .piece-fits4 .ensures ∙ rw (first, second, third) at (entry-pieces s head)
 
 pub entry-bytes-spec : {M : Type 1} → statement M
 entry-bytes-spec =
     tie.close
     (tie.spec
-    shared-slice-read-form
-    shared-slice-read-form-2
-    shared-slice-read-form-3
-    shared-slice-read-form-4
-    shared-slice-read-form-5
-    shared-slice-read-form-6
-    shared-slice-read-form-7
-    entry-of-requires
-    entry-fits-requires
-    returns)
+    head-fits-requires
+    returns
+    shared-slice-read-count
+    piece-fits-requires
+    returns-2
+    piece-fits-requires-2
+    returns-3
+    piece-fits-requires-3
+    returns-4
+    piece-fits-requires-4
+    returns-5)

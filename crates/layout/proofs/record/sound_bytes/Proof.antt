@@ -1,27 +1,35 @@
--- `record::sound_bytes` meets its contract: the form as defined, and the soundness of the record read.
+-- `record::sound_bytes` meets its contract: all zero at Dormant; else the form as defined, and the soundness of the record read.
 use native.Mathlib.Omega.{arith}
-use mathlib.Core.Path.{_≡_, ap, _∙_}
-use mathlib.Core.Bool.{Bool, _&&_}
+use mathlib.Core.Path.{_≡_, ap, sym, _∙_}
+use mathlib.Core.Bool.{true, false}
 use Rattle.block.specs.Sound.{sound}
 use Rattle.layout.specs.RecordLayout.{decodeRecord, recordForm, soundBytes}
+use Rattle.layout.proofs.CheckLaws.{dormant-tests}
 use borrow.Author.Needs.{needs}
+use borrow.Author.Tests.{not-true, not-false}
 use Rattle.layout.proofs.record.sound_bytes.Statement.{statement}
 use Rattle.layout.proofs.record.sound_bytes.Tie as tie
 
-shared-slice-read-form : tie.Need-shared-slice-read-form
-shared-slice-read-form c = omega arith
+shared-slice-read-if1 : tie.Need-shared-slice-read-if1
+shared-slice-read-if1 c = search needs
 
-shared-slice-read-form-2 : tie.Need-shared-slice-read-form-2
-shared-slice-read-form-2 c = omega arith
+all-zero-requires : tie.Need-all-zero-requires
+all-zero-requires c κs = search needs
 
-shared-slice-read-form-3 : tie.Need-shared-slice-read-form-3
-shared-slice-read-form-3 c = omega arith
+returns : tie.Need-returns
+returns c =
+    let a = c .before .before .before .before .args in
+    c .all-zero .ensures ∙ dormant-tests (a .s .now) (omega arith) (a .kind) (c .before .if1 .taken)
 
-shared-slice-read-form-4 : tie.Need-shared-slice-read-form-4
-shared-slice-read-form-4 c = omega arith
+record-form-requires : tie.Need-record-form-requires
+record-form-requires c κs = search needs
 
-shared-slice-read-form-5 : tie.Need-shared-slice-read-form-5
-shared-slice-read-form-5 c = omega arith
+returns-2 : tie.Need-returns-2
+unfolding soundBytes
+returns-2 c =
+    let a = c .before .before .before .before .before .args in
+    let form : recordForm (a .s .now) ≡ false = sym (c .before .record-form .ensures) ∙ not-true _ (c .if2 .taken) in
+    rw form
 
 record-of-requires : tie.Need-record-of-requires
 record-of-requires c κs = search needs
@@ -29,22 +37,23 @@ record-of-requires c κs = search needs
 sound-requires : tie.Need-sound-requires
 sound-requires c κs = search needs
 
-returns : tie.Need-returns
-unfolding soundBytes recordForm
-returns c =
-    let a = c .before .before .before .before .before .before .before .before .args in
+returns-3 : tie.Need-returns-3
+unfolding soundBytes
+returns-3 c =
+    let a = c .before .before .before .before .before .before .before .args in
+    let form : recordForm (a .s .now) ≡ true = sym (c .before .before .before .record-form .ensures) ∙ not-false _ (c .before .before .if2 .left) in
     let fields : c .sound .result ≡ sound (a .kind) (decodeRecord (a .s .now)) = c .sound .ensures ∙ ap (sound (a .kind)) (c .before .record-of .ensures) in
-    ap (λ (b : Bool). recordForm (a .s .now) && b) fields
+    rw form fields
 
 pub sound-bytes-spec : {M : Type 1} → statement M
 sound-bytes-spec =
     tie.close
     (tie.spec
-    shared-slice-read-form
-    shared-slice-read-form-2
-    shared-slice-read-form-3
-    shared-slice-read-form-4
-    shared-slice-read-form-5
+    shared-slice-read-if1
+    all-zero-requires
+    returns
+    record-form-requires
+    returns-2
     record-of-requires
     sound-requires
-    returns)
+    returns-3)

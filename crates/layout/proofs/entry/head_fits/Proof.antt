@@ -1,0 +1,49 @@
+-- `entry::head_fits` meets its contract: two unnamed bytes as one number, the rest as defined.
+use native.Mathlib.Omega.{arith}
+use Rattle.layout.proofs.CheckLaws.{head-form}
+use borrow.Author.Needs.{needs}
+use Rattle.layout.proofs.entry.head_fits.Statement.{statement}
+use Rattle.layout.proofs.entry.head_fits.Tie as tie
+
+shared-slice-read-form : tie.Need-shared-slice-read-form
+shared-slice-read-form c = search needs
+
+u16-at-requires : tie.Need-u16-at-requires
+u16-at-requires c κs = search needs
+
+shared-slice-read-replies : tie.Need-shared-slice-read-replies
+shared-slice-read-replies c = search needs
+
+shared-slice-read-replies-2 : tie.Need-shared-slice-read-replies-2
+shared-slice-read-replies-2 c = search needs
+
+shared-slice-read-replies-3 : tie.Need-shared-slice-read-replies-3
+shared-slice-read-replies-3 c = search needs
+
+shared-slice-read-code-fits : tie.Need-shared-slice-read-code-fits
+shared-slice-read-code-fits c = search needs
+
+u16-at-requires-2 : tie.Need-u16-at-requires-2
+u16-at-requires-2 c κs = search needs
+
+code-fits-requires : tie.Need-code-fits-requires
+code-fits-requires c κs = search needs
+
+returns : tie.Need-returns
+returns c =
+    let s = c .before .before .before .before .before .before .before .before .before .args .s .now in
+    rw (c .before .before .before .before .before .before .u16-at .ensures, head-form s (omega arith), c .code-fits .ensures, c .before .u16-at2 .ensures)
+
+pub head-fits-spec : {M : Type 1} → statement M
+head-fits-spec =
+    tie.close
+    (tie.spec
+    shared-slice-read-form
+    u16-at-requires
+    shared-slice-read-replies
+    shared-slice-read-replies-2
+    shared-slice-read-replies-3
+    shared-slice-read-code-fits
+    u16-at-requires-2
+    code-fits-requires
+    returns)

@@ -1,0 +1,24 @@
+-- `record::record_form` meets its contract: pairs of bytes as one number.
+use native.Mathlib.Omega.{arith}
+use Rattle.layout.proofs.CheckLaws.{form-tests}
+use borrow.Author.Needs.{needs}
+use Rattle.layout.proofs.record.record_form.Statement.{statement}
+use Rattle.layout.proofs.record.record_form.Tie as tie
+
+shared-slice-read-result : tie.Need-shared-slice-read-result
+shared-slice-read-result c = search needs
+
+u16-at-requires : tie.Need-u16-at-requires
+u16-at-requires c κs = search needs
+
+u16-at-requires-2 : tie.Need-u16-at-requires-2
+u16-at-requires-2 c κs = search needs
+
+returns : tie.Need-returns
+returns c =
+    let s = c .before .before .before .before .args .s .now in
+    rw (c .before .u16-at .ensures, c .u16-at2 .ensures) (form-tests s (omega arith))
+
+pub record-form-spec : {M : Type 1} → statement M
+record-form-spec =
+    tie.close (tie.spec shared-slice-read-result u16-at-requires u16-at-requires-2 returns)
