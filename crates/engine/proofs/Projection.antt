@@ -24,7 +24,8 @@ use Rattle.block.specs.BlockInvariant.{seenCall}
 use Rattle.block.specs.declared.entry.Inputs.{Inputs}
 use Rattle.engine.specs.Inputs.{flagsIn, inputsOf}
 use Rattle.engine.specs.Serve.{Buffers, recordIn, entryIn, callIn, served, servedTo}
-use Rattle.engine.specs.Scans.{Bytes, flagsSeen}
+use Rattle.words.specs.Word.{Bytes}
+use Rattle.engine.specs.Scans.{flagsSeen}
 use Rattle.engine.proofs.FitsLaws.{OutcomeFits, call-fits}
 use Rattle.engine.proofs.GridLaws.{grid-length, grid-later, grid-earlier}
 use Rattle.engine.proofs.JournalLaws.{decode-after, room-after}

@@ -22,7 +22,8 @@ use Rattle.block.specs.BlockInvariant.{Made, andCall, seenCall}
 use Rattle.engine.specs.Verify.{verifyOf}
 use Rattle.engine.specs.Serve.{recordIn, entryIn}
 use Rattle.engine.specs.Scan.{ScanResult, scanBy, scanBlocks, scanOf}
-use Rattle.engine.specs.Scans.{Given, Bytes, withEvents, withSeen}
+use Rattle.words.specs.Word.{Bytes}
+use Rattle.engine.specs.Scans.{Given, withEvents, withSeen}
 use Rattle.engine.specs.ScanAccepted.{GivenFits}
 use Rattle.engine.proofs.Projection.{state-length, inputsSeen, seen-is, events-none, still-fits, still-form}
 use Rattle.engine.proofs.ScanAccepted.{verify-passes}

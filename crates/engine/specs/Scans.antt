@@ -1,9 +1,9 @@
 -- Document 01, "A list of scans": the state buffer, the journal and the history of each block, read off the bytes.
-use Prim.Native.Nat.{ℕ, suc, _<_}
+use Prim.Native.Nat.{ℕ, suc}
 use mathlib.Core.Bool.{cond}
 use mathlib.Core.List.{List, [], _++_}
 use lib.Dec.{ltb}
-use lib.ListN.{getD}
+use Rattle.words.specs.Word.{Bytes}
 use Rattle.table.specs.Blocks.{Block, blocksOf, blockAt}
 use Rattle.layout.specs.Buffer.{recordLength, reportLength, part}
 use Rattle.layout.specs.ReportLayout.{reportedPieces, reportedPasses}
@@ -28,10 +28,6 @@ infixl 20 _andThen_
 pub data Scans : Type 0 where
   none : Scans
   _andThen_ : Scans → Given → Scans
-
--- the elements of a slice are bytes
-abbrev pub Bytes : List ℕ → Type 0
-Bytes s = (i : ℕ) → getD s i 0 < 256
 
 -- the frames are bytes
 pub data Framed : Scans → Type 0 where

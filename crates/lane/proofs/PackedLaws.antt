@@ -21,7 +21,7 @@ use Rattle.table.proofs.AcceptedLaws.{accepted-blocks}
 use Rattle.engine.specs.Fresh.{freshBy, freshAfter, freshOf, freshAnswer}
 use Rattle.engine.specs.Scan.{scanBy, scanAfter, scanBlocks, scanOf, scanAnswer}
 use Rattle.engine.specs.Verify.{stateLength, verifyOf}
-use Rattle.engine.specs.Scans.{Bytes}
+use Rattle.words.specs.Word.{Bytes}
 use Rattle.engine.specs.declared.answer.Freshened.the-variants.{Blocks as FreshBlocks}
 use Rattle.engine.specs.declared.answer.Scanned.{Scanned}
 use Rattle.engine.specs.declared.answer.Scanned.the-variants.{Events, Refused as ScanRefused}

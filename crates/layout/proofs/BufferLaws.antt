@@ -11,7 +11,7 @@ use lib.ListN.{length, take, drop, length-drop, length-append, drop-of-length-le
 use lib.Seq.{take-all, drop-drop, take-append-le, drop-append-le, drop-append-add, length-take-le, take-at, drop-at, getD-drop}
 use borrow.Author.Tests.{ltb-true, ltb-false}
 use borrow.Rule.Slice.PartMut.{putMid}
-use Rattle.words.proofs.WordLaws.{Bytes}
+use Rattle.words.specs.Word.{Bytes}
 use Rattle.layout.specs.Buffer.{part, put}
 
 -- a value that fits at its place

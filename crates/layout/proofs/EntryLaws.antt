@@ -9,8 +9,8 @@ use lib.Dec.{eqb, ltb}
 use lib.ListN.{length, getD, take, drop, drop-of-length-le, take-append-drop, length-append}
 use lib.Seq.{length-take-le, take-at, drop-at, drop-drop}
 use borrow.Author.Tests.{ltb-true, eqb-true, lt-ltb}
-use Rattle.words.specs.Word.{number, bytes, numberAt}
-use Rattle.words.proofs.WordLaws.{Bytes, number-of-bytes}
+use Rattle.words.specs.Word.{Bytes, number, bytes, numberAt}
+use Rattle.words.proofs.WordLaws.{number-of-bytes}
 use Rattle.block.specs.Entry.{entryFits}
 use Rattle.block.specs.declared.entry.Piece.{Piece}
 use Rattle.block.specs.declared.entry.Entry.{Entry}

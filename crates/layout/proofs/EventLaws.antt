@@ -10,8 +10,8 @@ use lib.Dec.{eqb}
 use lib.ListN.{length, take, drop, length-append}
 use lib.Seq.{drop-drop, take-at, drop-at}
 use borrow.Author.Tests.{eq-eqb, ne-eqb}
-use Rattle.words.specs.Word.{bytes}
-use Rattle.words.proofs.WordLaws.{Bytes, number-of-bytes}
+use Rattle.words.specs.Word.{Bytes, bytes}
+use Rattle.words.proofs.WordLaws.{number-of-bytes}
 use Rattle.block.specs.declared.event.Event.{Event}
 use Rattle.layout.specs.Buffer.{part, put, jobWidth, All, nil, cons}
 use Rattle.layout.specs.EventLayout.{Posted, encodeEvent, decodeEvent, encodeEvents, encodePosted, posted, decodeEvents, eventsAt, EventFits}

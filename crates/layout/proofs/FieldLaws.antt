@@ -8,8 +8,8 @@ use native.Mathlib.Omega.{arith}
 use native.Mathlib.Nat.{pow-succ', mul-le-mul-left, one-le-pow}
 use lib.ListN.{length, take, drop, length-drop, take-append-drop, drop-of-length-le}
 use lib.Seq.{drop-cons, drop-drop, length-take-le}
-use Rattle.words.specs.Word.{number, bytes, numberAt}
-use Rattle.words.proofs.WordLaws.{Bytes, bytes-number, bytes-bytes}
+use Rattle.words.specs.Word.{Bytes, number, bytes, numberAt}
+use Rattle.words.proofs.WordLaws.{bytes-number, bytes-bytes}
 use Rattle.layout.specs.Buffer.{byteAt}
 use Rattle.layout.proofs.BufferLaws.{bytes-take, bytes-drop, bytes-append}
 

@@ -7,8 +7,8 @@ use native.Mathlib.Omega.{arith}
 use lib.Dec.{eqb, ltb, leb}
 use lib.ListN.{length, replicate}
 use borrow.Author.Tests.{ltb-true, leb-true, eqb-true, lt-ltb, le-leb}
-use Rattle.words.specs.Word.{number, bytes}
-use Rattle.words.proofs.WordLaws.{Bytes, number-of-bytes}
+use Rattle.words.specs.Word.{Bytes, number, bytes}
+use Rattle.words.proofs.WordLaws.{number-of-bytes}
 use Rattle.block.specs.Record.{freshRecord}
 use Rattle.block.specs.Sound.{sound}
 use Rattle.block.specs.declared.record.Record.{Record}

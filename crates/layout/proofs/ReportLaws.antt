@@ -3,8 +3,7 @@ use mathlib.Core.Path.{_≡_, refl}
 use native.Mathlib.Omega.{arith}
 use Prim.Native.Nat.{_<_}
 use lib.ListN.{length}
-use Rattle.words.specs.Word.{bytes}
-use Rattle.words.proofs.WordLaws.{Bytes}
+use Rattle.words.specs.Word.{Bytes, bytes}
 use Rattle.block.specs.Call.{Outcome}
 use Rattle.layout.specs.Buffer.{jobWidth}
 use Rattle.layout.specs.RecordLayout.{flagsByte}

@@ -8,8 +8,7 @@ use native.Mathlib.Numerals.{add-one}
 use lib.Dec.{eqb}
 use lib.ListN.{length, getD, take, drop, set, length-set}
 use lib.Seq.{drop-cons, drop-length, take-suc, take-suc-set}
-use Rattle.words.specs.Word.{number}
-use Rattle.words.proofs.WordLaws.{Bytes}
+use Rattle.words.specs.Word.{Bytes, number}
 use Rattle.table.specs.Place.{andThen}
 use Rattle.table.specs.Image.{slotCount, tagOf}
 use Rattle.table.specs.Header.{Headed}

@@ -9,8 +9,7 @@ use borrow.Author.Tests.{eq-eqb, ne-eqb}
 use lib.Dec.{eqb}
 use lib.ListN.{length, getD, drop}
 use lib.Seq.{drop-cons, drop-length}
-use Rattle.words.specs.Word.{number}
-use Rattle.words.proofs.WordLaws.{Bytes}
+use Rattle.words.specs.Word.{Bytes, number}
 use Rattle.table.specs.Image.{slotBytes, tagOf}
 use Rattle.table.specs.Tag.{tagForm, sameBytes}
 use Rattle.table.specs.Chain.{chainOf}

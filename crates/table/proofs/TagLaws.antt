@@ -10,8 +10,8 @@ use borrow.Author.Tests.{eq-eqb, ne-eqb, eqb-true, eqb-false, ltb-true, ltb-fals
 use lib.Dec.{ltb, eqb}
 use lib.ListN.{length, getD, drop, length-take, length-drop, List·getD-eq-default}
 use lib.Seq.{drop-cons, drop-length, getD-take, getD-drop, length-take-le}
-use Rattle.words.specs.Word.{number}
-use Rattle.words.proofs.WordLaws.{Bytes, number-injective}
+use Rattle.words.specs.Word.{Bytes, number}
+use Rattle.words.proofs.WordLaws.{number-injective}
 use Rattle.table.specs.Image.{slotStart, tagOf, HasSlot}
 use Rattle.table.specs.Tag.{tagChar, spaces, padded, tagText, tagForm, sameBytes}
 use Rattle.table.proofs.Logic.{by-test, not-both, and-left}

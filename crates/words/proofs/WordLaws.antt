@@ -8,11 +8,7 @@ use native.Mathlib.Nat.{pow-succ', mul-assoc, mul-comm, mod-eq-of-lt, one-le-pow
 use lib.Arith.{mod-mul}
 use lib.ListN.{length, getD, take, drop, length-drop}
 use lib.Seq.{drop-cons, drop-drop, take-add, length-take-le}
-use Rattle.words.specs.Word.{number, bytes, numberAt}
-
--- every element is a byte
-abbrev pub Bytes : List ℕ → Type 0
-Bytes l = (i : ℕ) → getD l i 0 < 256
+use Rattle.words.specs.Word.{Bytes, number, bytes, numberAt}
 
 -- the number of joined bytes
 pub number-append : (l m : List ℕ) → number (l ++ m) ≡ number l + 256 ^ length l * number m

@@ -1,7 +1,11 @@
 -- Document 01: "Values are little-endian". Numbers in bytes, for every width.
-use Prim.Native.Nat.{ℕ, zero, suc, _+_, _*_, _/_, _%_}
+use Prim.Native.Nat.{ℕ, zero, suc, _+_, _*_, _/_, _%_, _<_}
 use mathlib.Core.List.{List, [], _∷_}
-use lib.ListN.{take, drop}
+use lib.ListN.{getD, take, drop}
+
+-- every element is a byte
+abbrev pub Bytes : List ℕ → Type 0
+Bytes l = (i : ℕ) → getD l i 0 < 256
 
 -- the number that bytes stand for, the lowest byte first
 unfoldable pub number : List ℕ → ℕ
