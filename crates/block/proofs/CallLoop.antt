@@ -29,7 +29,8 @@ use Rattle.block.specs.declared.executing.Work.{Work}
 use Rattle.block.specs.declared.executing.Bounds.{Bounds}
 use Rattle.block.specs.declared.pass.Pass.{Pass}
 use Rattle.block.specs.declared.call.CallResult.{CallResult}
-use Rattle.block.proofs.Tests.{decide, choose, none}
+use Rattle.kind.proofs.Logic.{by-test}
+use Rattle.block.proofs.Tests.{choose, none}
 use Rattle.block.proofs.CallLaws.{Whole}
 
 pieces-used : (several : Bool) (b : Bounds) (w : Work) (ps : List Piece) → usePieces several b w ps .used ≤ w .used + length ps
@@ -81,9 +82,9 @@ module _ (a : CallResult) (p : Pass) where
   add-last : Room → outcomeOf (withPass a p) ≡ onto (outcomeOf a) (lastly p)
   unfolding withPass
   add-last h =
-      decide (eqb (p .event .kind) 0)
+      by-test (eqb (p .event .kind) 0)
       (λ t. rw t (λ j. record { next = p .next; events = sym (append-nil (take (a .count) (a .first ∷ a .second ∷ []))) j; used = a .used + p .used; passes = a .passes + 1 }))
-      (λ t. decide (eqb (a .count) 0)
+      (λ t. by-test (eqb (a .count) 0)
       (λ u. rw (t, u) (λ j. record { next = p .next; events = sym (events 0 (eqb-true (a .count) 0 u)) j; used = a .used + p .used; passes = a .passes + 1 }))
       (λ u.
       let one : a .count ≡ 1 = omega (arith, eqb-false (a .count) 0 u, rw t at h) in
@@ -109,15 +110,15 @@ module _ (a : CallResult) (p : Pass) where
   add-count : Room → withPass a p .count ≡ a .count + length (emitted (p .event))
   unfolding withPass
   add-count h =
-      decide (eqb (p .event .kind) 0) (λ t. rw t (omega arith))
-      (λ t. decide (eqb (a .count) 0) (λ u. rw (t, u) (omega (arith, eqb-true (a .count) 0 u)))
+      by-test (eqb (p .event .kind) 0) (λ t. rw t (omega arith))
+      (λ t. by-test (eqb (a .count) 0) (λ u. rw (t, u) (omega (arith, eqb-true (a .count) 0 u)))
       (λ u. rw (t, u) (omega (arith, eqb-false (a .count) 0 u, rw t at h))))
 
   add-next : (withPass a p .next ≡ p .next) × (withPass a p .used ≡ a .used + p .used) × (withPass a p .passes ≡ a .passes + 1)
   unfolding withPass
   add-next =
-      decide (eqb (p .event .kind) 0) (λ t. rw t (refl, refl, refl))
-      (λ t. decide (eqb (a .count) 0) (λ u. rw (t, u) (refl, refl, refl)) (λ u. rw (t, u) (refl, refl, refl)))
+      by-test (eqb (p .event .kind) 0) (λ t. rw t (refl, refl, refl))
+      (λ t. by-test (eqb (a .count) 0) (λ u. rw (t, u) (refl, refl, refl)) (λ u. rw (t, u) (refl, refl, refl)))
 
 -- what is left of a call whose whole outcome is t, after the passes of the account a
 pub record Rest (k : ℕ) (i : Inputs) (e : Entry) (a : CallResult) (t : Outcome) : Type 0 where

@@ -30,7 +30,8 @@ use Rattle.block.specs.declared.entry.Inputs.{Inputs}
 use Rattle.block.specs.declared.entry.Entry.{Entry}
 use Rattle.block.specs.declared.executing.Work.{Work}
 use Rattle.block.specs.declared.pass.Pass.{Pass}
-use Rattle.block.proofs.Tests.{decide, choose, never, or-right, and-left, and-right, each}
+use Rattle.kind.proofs.Logic.{by-test, and-left, and-right}
+use Rattle.block.proofs.Tests.{choose, never, or-right, each}
 use Rattle.block.proofs.Tests.{none as no-case}
 use Rattle.block.proofs.Shapes.{End, isDone, isError, isAborted, endStep, endFlags, busy, rec, timesFit, errorCode, EndFits, Settled, idle, runs, aborts, shows, resets, withdraws, Shape, settled, unshown}
 use Rattle.block.proofs.WorkLaws.{coded, form, Worked, worked-laws}
@@ -109,7 +110,7 @@ code-two k c h = rw (ne-eqb c 0 (λ q. omega (arith, leb-true 2 c h)), ne-eqb c 
 
 has-time-out : (k : ℕ) (e : Entry) (r : Record) (t : Timer) → pastTimeOut (timeOutOf k e r) t ≡ true → hasTimeOut k ≡ true
 unfolding pastTimeOut past
-has-time-out k e r t h = decide (hasTimeOut k) (λ g. g) (λ g. no-case (rw g at h))
+has-time-out k e r t h = by-test (hasTimeOut k) (λ g. g) (λ g. no-case (rw g at h))
 
 called-aborts : (k : ℕ) (i : Inputs) → calledOff k i ≡ true → isEdge k ≡ true → hasAbort k ≡ true
 called-aborts k i h g = and-left (hasAbort k) (i .abort) (rw g at h)

@@ -12,7 +12,8 @@ use Rattle.block.specs.Record.{Dormant, Executing, Done, Error, Aborting
 use Rattle.block.specs.Sound.{only, busyOnly, doneOnly, errorOnly, abortedOnly, implies, zeroed, flagsFit, codeSound, requestSound, stepSound, timesSound, sound}
 use Rattle.block.specs.declared.record.Flags.{Flags}
 use Rattle.block.specs.declared.record.Record.{Record}
-use Rattle.block.proofs.Tests.{decide, none, beq-true, or-cases, and-left, and-right, Each, each, to-six}
+use Rattle.kind.proofs.Logic.{by-test, and-left, and-right}
+use Rattle.block.proofs.Tests.{none, beq-true, or-cases, Each, each, to-six}
 
 -- the three end steps
 pub data End : Type 0 where
@@ -117,7 +118,7 @@ edge-aborts k h g = rw h (and-right (leb 1 k) (leb k 8) g)
 from-five : (k : ℕ) → isKind k ≡ true → (isEdge k ≡ true → hasAbort k ≡ true) → leb 5 k ≡ true
 unfolding isKind isEdge hasAbort
 from-five k h f =
-    decide (leb k 8)
+    by-test (leb k 8)
     (λ g. and-left (leb 5 k) (leb k 8) (f (rw (and-left (leb 1 k) (leb k 14) h) g)))
     (λ g. le-leb 5 k (omega (arith, leb-false k 8 g)))
 
@@ -252,11 +253,11 @@ sound-of k F h f r idle = refl
 sound-of k F h f r (runs x) = x
 sound-of k F h f r (aborts a x) = rw (from-five k h a) x
 sound-of k F h f r (shows isDone e x) =
-    decide (isEdge k) (λ g. rw (e .0, e .1, g) (rw g at x)) (λ g. rw (e .0, e .1, e .2 g, g) (rw g at x))
+    by-test (isEdge k) (λ g. rw (e .0, e .1, g) (rw g at x)) (λ g. rw (e .0, e .1, e .2 g, g) (rw g at x))
 sound-of k F h f r (shows isError e x) = rw (beq-on, e f) x
 sound-of k F h f r (shows isAborted e x) = rw (e .0, e .1) x
 sound-of k F h f r (resets isDone e x) =
-    decide (isEdge k) (λ g. rw (e .0, e .1, g) (rw g at x)) (λ g. rw (e .0, e .1, e .2 g, g) (rw g at x))
+    by-test (isEdge k) (λ g. rw (e .0, e .1, g) (rw g at x)) (λ g. rw (e .0, e .1, e .2 g, g) (rw g at x))
 sound-of k F h f r (resets isError e x) = rw (beq-on, e f) x
 sound-of k F h f r (resets isAborted e x) = rw (e .0, e .1) x
 sound-of k F h f r (withdraws e x) = rw e (rw e at x)

@@ -9,12 +9,13 @@ use Rattle.clock.specs.declared.Timer.{Timer}
 use Rattle.block.specs.Record.{Dormant, Executing, Done, Error, Aborting, Aborted, Resetting, atStep}
 use Rattle.block.specs.Sound.{busyOnly, doneOnly, errorOnly, abortedOnly, implies, zeroed, flagsFit, codeSound, requestSound, stepSound, timesSound, sound}
 use Rattle.block.specs.declared.record.Record.{Record}
-use Rattle.block.proofs.Tests.{decide, none, never, to-six}
+use Rattle.kind.proofs.Logic.{by-test}
+use Rattle.block.proofs.Tests.{none, never, to-six}
 use Rattle.block.proofs.Shapes.{flagsOf, rec, fresh-is, beq-on}
 
 -- the code without the error flag
 no-code : (c : ℕ) (timeOut : Bool) → Bool·beq (not (eqb c 0)) false && implies (eqb c 1) timeOut ≡ eqb c 0
-no-code c timeOut = decide (eqb c 0) (λ e. rw (eqb-true c 0 e)) (λ e. rw e)
+no-code c timeOut = by-test (eqb c 0) (λ e. rw (eqb-true c 0 e)) (λ e. rw e)
 
 -- the rest of a record, its flags given one by one
 module _ (k : ℕ) (j l t : ℕ) (w : Timer) where
@@ -159,7 +160,7 @@ module _ (k : ℕ) (r : Record) where
   pub at-dormant : sound k (atStep Dormant r) ≡ zeroed r
   unfolding sound zeroed flagsFit codeSound requestSound stepSound timesSound
   at-dormant =
-      decide (zeroed r)
+      by-test (zeroed r)
       (λ h. ap (sound k) (fresh-is (atStep Dormant r) refl h) ∙ sym h)
       (λ h. first (zeroed r) (flagsFit k Dormant (r .flags)) (codeSound k r) (requestSound k r) (stepSound k (atStep Dormant r)) (timesSound k r) h)
     where
@@ -211,7 +212,7 @@ module _ (k : ℕ) (r : Record) where
       → (r .step ≡ Resetting → ⊥) → sound k r ≡ false
   unfolding sound stepSound
   no-step dormant executing done error aborting aborted resetting =
-      decide (leb (r .step) 6)
+      by-test (leb (r .step) 6)
       (λ h. to-six (λ (n : ℕ). r .step ≡ n → sound k r ≡ false) (r .step) h
       (λ e. absurd (dormant e)) (λ e. absurd (executing e)) (λ e. absurd (done e)) (λ e. absurd (error e)) (λ e. absurd (aborting e)) (λ e. absurd (aborted e)) (λ e. absurd (resetting e))
       refl)

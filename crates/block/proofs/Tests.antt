@@ -1,4 +1,4 @@
--- Cases of a boolean test, and conjunctions of tests taken apart and put together. For the laws of the block machine.
+-- Cases of a boolean test, and conjunctions of several tests taken apart. For the laws of the block machine.
 use Prim.Native.Nat.{ℕ, suc, _≤_}
 use native.Mathlib.Omega.{arith}
 use mathlib.Core.Bool.{Bool, true, false, cond, _&&_, _||_, Bool·beq, true≢false, false≢true}
@@ -6,10 +6,7 @@ use mathlib.Core.List.{List, [], _∷_}
 use mathlib.Core.Path.{_≡_, refl, sym, subst}
 use lib.Dec.{eqb, leb}
 use borrow.Author.Tests.{eqb-true, eqb-false, leb-true}
-
-pub decide : {A : Type 0} (b : Bool) → (b ≡ true → A) → (b ≡ false → A) → A
-decide true f g = f refl
-decide false f g = g refl
+use Rattle.kind.proofs.Logic.{by-test, and-left, and-right}
 
 pub choose : {A : Type 0} (P : A → Type 0) (b : Bool) (x y : A) → (b ≡ true → P x) → (b ≡ false → P y) → P (cond b x y)
 choose P true x y f g = f refl
@@ -34,14 +31,6 @@ or-cases false b h f g = g h
 pub or-right : (a b : Bool) → b ≡ true → (a || b) ≡ true
 or-right true b h = refl
 or-right false b h = h
-
-pub and-left : (a b : Bool) → (a && b) ≡ true → a ≡ true
-and-left true b h = refl
-and-left false b h = h
-
-pub and-right : (a b : Bool) → (a && b) ≡ true → b ≡ true
-and-right true b h = h
-and-right false b h = none h
 
 -- a conjunction as it is written, to the left, and its parts as facts
 abbrev pub ands : Bool → List Bool → Bool
@@ -75,4 +64,4 @@ to-six Q n l q0 q1 q2 q3 q4 q5 q6 =
     above h = omega (arith, leb-true n 6 l)
 
     try : (m : ℕ) → m ≤ n → Q m → (suc m ≤ n → Q n) → Q n
-    try m h q f = decide (eqb n m) (λ e. subst Q (sym (eqb-true n m e)) q) (λ e. f (let d : n ≡ m → ⊥ = eqb-false n m e in omega arith))
+    try m h q f = by-test (eqb n m) (λ e. subst Q (sym (eqb-true n m e)) q) (λ e. f (let d : n ≡ m → ⊥ = eqb-false n m e in omega arith))

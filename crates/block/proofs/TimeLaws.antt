@@ -23,7 +23,8 @@ use Rattle.block.specs.declared.record.Record.{Record}
 use Rattle.block.specs.declared.entry.Inputs.{Inputs}
 use Rattle.block.specs.declared.entry.Entry.{Entry}
 use Rattle.block.specs.declared.pass.Pass.{Pass}
-use Rattle.block.proofs.Tests.{decide, never}
+use Rattle.kind.proofs.Logic.{by-test}
+use Rattle.block.proofs.Tests.{never}
 use Rattle.block.proofs.Shapes.{Shape, settled, settled-of}
 use Rattle.block.proofs.Passes.{rank, Goes, starts, leaves, returns, passed}
 use Rattle.block.proofs.EventLaws.{hasStart-append, Events, events}
@@ -60,7 +61,7 @@ module _ (k : ℕ) (i : Inputs) (e : Entry) (fits : e .clock < 4294967296) where
       let z : ⊥ = omega (arith, rank-executing (p .next) q) in
       absurd z
   joined r p o (returns u v n) x y =
-      decide (hasStart (o .events))
+      by-test (hasStart (o .events))
       (λ h. record {
         came = λ g. never (sym (rw v h) ∙ g);
         timer = rw (v, u, zero-add, h) (rw h at (y .timer));

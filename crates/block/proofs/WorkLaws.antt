@@ -21,7 +21,8 @@ use Rattle.block.specs.declared.entry.Piece.{Piece}
 use Rattle.block.specs.declared.entry.Entry.{Entry}
 use Rattle.block.specs.declared.executing.Work.{Work}
 use Rattle.block.specs.declared.executing.Bounds.{Bounds}
-use Rattle.block.proofs.Tests.{choose, none, or-cases, and-left, and-right, each}
+use Rattle.kind.proofs.Logic.{and-left, and-right}
+use Rattle.block.proofs.Tests.{choose, none, or-cases, each}
 
 -- work w that became work v by using the first pieces of a list
 record Uses (w v : Work) (ps : List Piece) : Type 0 where

@@ -11,7 +11,7 @@ use Rattle.table.proofs.AcceptedLaws.{accepted-blocks, accepted-kind}
 use Rattle.layout.specs.Buffer.{recordLength, part}
 use Rattle.layout.specs.RecordLayout.{recordForm, soundBytes}
 use Rattle.layout.specs.EventLayout.{eventsAt}
-use Rattle.layout.proofs.FieldLaws.{both-join}
+use Rattle.kind.proofs.Logic.{and-join}
 use Rattle.block.specs.History.{entriesOf, recordAfter}
 use Rattle.block.specs.BlockInvariant.{noCall}
 use Rattle.block.specs.Sound.{sound}
@@ -72,7 +72,7 @@ module _ (image buffer : List ℕ) (n : ℕ) (m : FreshMade image buffer n) wher
   sound-after {h} x k l =
       let s = kept k l x in
       let p = block-invariant (blockAt (blocksOf image) k .kind) (historyOf image buffer k h) (s .made) in
-      both-join (recordForm (part recordLength k (stateAfter image buffer h)))
+      and-join (recordForm (part recordLength k (stateAfter image buffer h)))
       (sound (blockAt (blocksOf image) k .kind) (recordIn (stateAfter image buffer h) k))
       (held x .form k l) (rw (s .record-is) (p .sound))
 

@@ -1,39 +1,28 @@
 -- A property of kinds is proved of a range of kind bytes by one computed test: for the proofs of the functions of this crate.
 use mathlib.Core.Path.{_≡_, _∙_, subst, sym, refl}
-use mathlib.Core.Bool.{Bool, true, false, not, _&&_, _||_}
+use mathlib.Core.Bool.{Bool, true, false, not, _&&_, or-true}
 use mathlib.Core.List.{List, [], _∷_}
 use mathlib.Core.Logic.{_⊎_, inl, inr}
 use Prim.Native.Nat.{ℕ, zero, suc, _+_, _-_, _<_, _≤_}
 use native.Mathlib.Nat.{add-zero, add-suc, suc-add, le-of-suc-le-suc, not-suc-le-zero}
 use native.Mathlib.Omega.{arith}
-use lib.Dec.{T, eqb}
+use lib.Dec.{eqb}
 use borrow.Author.Tests.{ne-eqb, eq-eqb}
 use types.Run.{OneOf}
 use Rattle.kind.specs.Kind.{isOneOf}
+use Rattle.kind.proofs.Logic.{and-left, and-right}
 
 -- f holds at first and the n - 1 numbers after it
 abbrev pub throughout : (ℕ → Bool) → ℕ → ℕ → Bool
 throughout f first zero = true
 throughout f first (suc n) = f first && throughout f (suc first) n
 
-left : (a b : Bool) → T (a && b) → T a
-left true b t = tt
-left false b t = t
-
-right : (a b : Bool) → T (a && b) → T b
-right true b t = t
-right false b t = absurd t
-
-at : (f : ℕ → Bool) (n first j : ℕ) → T (throughout f first n) → j < n → T (f (first + j))
+at : (f : ℕ → Bool) (n first j : ℕ) → throughout f first n ≡ true → j < n → f (first + j) ≡ true
 at f zero first j t h = absurd (not-suc-le-zero h)
-at f (suc n) first zero t h = subst (λ (m : ℕ). T (f m)) (sym (add-zero first)) (left (f first) (throughout f (suc first) n) t)
+at f (suc n) first zero t h = subst (λ (m : ℕ). f m ≡ true) (sym (add-zero first)) (and-left (f first) (throughout f (suc first) n) t)
 at f (suc n) first (suc j) t h =
-    subst (λ (m : ℕ). T (f m)) (suc-add first j ∙ sym (add-suc first j))
-    (at f n (suc first) j (right (f first) (throughout f (suc first) n) t) (le-of-suc-le-suc h))
-
-true-of : (b : Bool) → T b → b ≡ true
-true-of true t = refl
-true-of false t = absurd t
+    subst (λ (m : ℕ). f m ≡ true) (suc-add first j ∙ sym (add-suc first j))
+    (at f n (suc first) j (and-right (f first) (throughout f (suc first) n) t) (le-of-suc-le-suc h))
 
 -- the value b, computed of the n numbers from first on, holds of each of them
 unfoldable pub equals : Bool → Bool → Bool
@@ -49,15 +38,11 @@ unequal false false e = refl
 unfoldable pub agree : Bool → (ℕ → Bool) → ℕ → Bool
 agree b f m = equals b (f m)
 
-pub in-range : (b : Bool) (f : ℕ → Bool) (first n : ℕ) → T (throughout (agree b f) first n) → (k : ℕ) → first ≤ k → k < first + n → b ≡ f k
+pub in-range : (b : Bool) (f : ℕ → Bool) (first n : ℕ) → throughout (agree b f) first n ≡ true → (k : ℕ) → first ≤ k → k < first + n → b ≡ f k
 unfolding agree
 in-range b f first n t k h g =
     let e : first + (k - first) ≡ k = omega arith in
-    unequal b (f k) (true-of _ (subst (λ (m : ℕ). T (agree b f m)) e (at (agree b f) n first (k - first) t (omega arith))))
-
-or-true : (b : Bool) → true ≡ b || true
-or-true true = refl
-or-true false = refl
+    unequal b (f k) (subst (λ (m : ℕ). agree b f m ≡ true) e (at (agree b f) n first (k - first) t (omega arith)))
 
 pub none-of : (ks : List ℕ) (k : ℕ) → (OneOf ks k → ⊥) → false ≡ isOneOf ks k
 none-of [] k h = refl
@@ -68,4 +53,4 @@ pub some-of : (ks : List ℕ) (k : ℕ) → OneOf ks k → true ≡ isOneOf ks k
 some-of [] k h = absurd h
 some-of (m ∷ []) k h = rw (eq-eqb k m h)
 some-of (m ∷ n ∷ ms) k (inl e) = rw (eq-eqb k m e)
-some-of (m ∷ n ∷ ms) k (inr o) = rw (← some-of (n ∷ ms) k o) (or-true (eqb k m))
+some-of (m ∷ n ∷ ms) k (inr o) = rw (← some-of (n ∷ ms) k o) (sym (or-true (eqb k m)))

@@ -21,7 +21,7 @@ use Rattle.layout.specs.Buffer.{byteAt, jobWidth}
 use Rattle.layout.specs.RecordLayout.{flagsByte, flagsOf, decodeRecord, recordForm, soundBytes}
 use Rattle.layout.specs.EntryLayout.{decodePiece, decodeEntry, entryForm, entryBytes}
 use Rattle.layout.proofs.BitLaws.{flags-back}
-use Rattle.layout.proofs.FieldLaws.{both-left, both-right, both-join}
+use Rattle.kind.proofs.Logic.{and-left, and-right, and-join}
 use Rattle.layout.proofs.RecordLaws.{form-bytes, sound-form, sound-record}
 
 same : (a b : Bool) → (a ≡ true → b ≡ true) → (b ≡ true → a ≡ true) → a ≡ b
@@ -40,8 +40,8 @@ module _ (s : List ℕ) (i : ℕ) (h : i + 2 ≤ length s) where
       parts : (n a b : ℕ) → n ≡ a + 256 * b → eqb n 0 ≡ eqb a 0 && eqb b 0
       parts n a b e =
           same (eqb n 0) (eqb a 0 && eqb b 0)
-          (λ t. let z : n ≡ 0 = eqb-true n 0 t in both-join (eqb a 0) (eqb b 0) (eq-eqb a 0 (omega arith)) (eq-eqb b 0 (omega arith)))
-          (λ t. let p : a ≡ 0 = eqb-true a 0 (both-left (eqb a 0) (eqb b 0) t) in let q : b ≡ 0 = eqb-true b 0 (both-right (eqb a 0) (eqb b 0) t) in eq-eqb n 0 (omega arith))
+          (λ t. let z : n ≡ 0 = eqb-true n 0 t in and-join (eqb a 0) (eqb b 0) (eq-eqb a 0 (omega arith)) (eq-eqb b 0 (omega arith)))
+          (λ t. let p : a ≡ 0 = eqb-true a 0 (and-left (eqb a 0) (eqb b 0) t) in let q : b ≡ 0 = eqb-true b 0 (and-right (eqb a 0) (eqb b 0) t) in eq-eqb n 0 (omega arith))
 
   pub pair-low : (m : ℕ) → m < 256 → leb (numberAt 2 s i) m ≡ leb (byteAt s i) m && eqb (byteAt s (i + 1)) 0
   pair-low m f = parts (numberAt 2 s i) (byteAt s i) (byteAt s (i + 1)) two-bytes
@@ -49,8 +49,8 @@ module _ (s : List ℕ) (i : ℕ) (h : i + 2 ≤ length s) where
       parts : (n a b : ℕ) → n ≡ a + 256 * b → leb n m ≡ leb a m && eqb b 0
       parts n a b e =
           same (leb n m) (leb a m && eqb b 0)
-          (λ t. let z : n ≤ m = leb-true n m t in both-join (leb a m) (eqb b 0) (le-leb a m (omega arith)) (eq-eqb b 0 (omega arith)))
-          (λ t. let p : a ≤ m = leb-true a m (both-left (leb a m) (eqb b 0) t) in let q : b ≡ 0 = eqb-true b 0 (both-right (leb a m) (eqb b 0) t) in le-leb n m (omega arith))
+          (λ t. let z : n ≤ m = leb-true n m t in and-join (leb a m) (eqb b 0) (le-leb a m (omega arith)) (eq-eqb b 0 (omega arith)))
+          (λ t. let p : a ≤ m = leb-true a m (and-left (leb a m) (eqb b 0) t) in let q : b ≡ 0 = eqb-true b 0 (and-right (leb a m) (eqb b 0) t) in le-leb n m (omega arith))
 
 -- the form of a record
 pub form-tests : (s : List ℕ) → 32 ≤ length s → ltb (byteAt s 1) 16 && leb (numberAt 2 s 2) 1 && eqb (numberAt 2 s 10) 0 ≡ recordForm s
@@ -93,7 +93,7 @@ module _ (s : List ℕ) (l : 32 ≤ length s) where
         let form : recordForm s ≡ true = rw (z1, z2, z3, z10, z11) in
         let fields : decodeRecord s ≡ freshRecord =
         λ i. record { step = d i; flags = flagsOf (z1 i); request = eqb (z2 i) 1; job = job i; code = code i; limit = limit i; timeout = timeout i; timer = record { last = last i; elapsed = e i } } in
-        both-join (recordForm s) (sound k (decodeRecord s)) form (ap (sound k) fields)
+        and-join (recordForm s) (sound k (decodeRecord s)) form (ap (sound k) fields)
 
     sound-zero : soundBytes k s ≡ true → (numberAt 8 s 0 ≡ 0) × (numberAt 8 s 8 ≡ 0) × (numberAt 8 s 16 ≡ 0) × (numberAt 8 s 24 ≡ 0)
     unfolding decodeRecord
@@ -153,8 +153,8 @@ module _ (s : List ℕ) (at : ℕ) (l : at + 8 ≤ length s) where
           let zd : d ≡ 0 = omega arith in
           rw (za, zb, zc, zd))
           (λ t.
-          let p = each (eqb a 0) (eqb c 0 ∷ eqb d 0 ∷ []) (both-right (eqb b 0) (eqb a 0 && eqb c 0 && eqb d 0) t) in
-          let zb : b ≡ 0 = eqb-true b 0 (both-left (eqb b 0) (eqb a 0 && eqb c 0 && eqb d 0) t) in
+          let p = each (eqb a 0) (eqb c 0 ∷ eqb d 0 ∷ []) (and-right (eqb b 0) (eqb a 0 && eqb c 0 && eqb d 0) t) in
+          let zb : b ≡ 0 = eqb-true b 0 (and-left (eqb b 0) (eqb a 0 && eqb c 0 && eqb d 0) t) in
           let za : a ≡ 0 = eqb-true a 0 (p .0) in
           let zc : c ≡ 0 = eqb-true c 0 (p .1 .0) in
           let zd : d ≡ 0 = eqb-true d 0 (p .1 .1) in

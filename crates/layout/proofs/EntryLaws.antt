@@ -18,7 +18,8 @@ use Rattle.layout.specs.Buffer.{byteAt, put, jobWidth, All, nil, cons}
 use Rattle.layout.specs.EntryLayout.{encodePiece, decodePiece, encodePieces, inputsByte, encodeEntry, decodeEntry, entryForm, entryBytes, PieceFits, EntryFits}
 use Rattle.layout.proofs.BitLaws.{inputs-bound, inputs-trip, inputs-back}
 use Rattle.layout.proofs.BufferLaws.{fill-whole}
-use Rattle.layout.proofs.FieldLaws.{field-bound, field-back, byte-back, byte, field, joined-bytes, Joined, none, both-left, both-right, both-join}
+use Rattle.kind.proofs.Logic.{and-left, and-right, and-join}
+use Rattle.layout.proofs.FieldLaws.{field-bound, field-back, byte-back, byte, field, joined-bytes, Joined, none}
 
 -- four pieces read back
 piece-trip : (p : Piece) → PieceFits p → _≡_ {A = Piece} (record { reply = p .reply; code = number (bytes 2 (p .code)); clock = number (bytes 4 (p .clock)) }) p
@@ -72,19 +73,19 @@ form-bytes s h =
     let t25 = t7 && z 25 in
     let t33 = t25 && z 33 in
     let t41 = t33 && z 41 in
-    let h41 : t41 ≡ true = both-left t41 (z 49) h in
-    let h33 : t33 ≡ true = both-left t33 (z 41) h41 in
-    let h25 : t25 ≡ true = both-left t25 (z 33) h33 in
-    let h7 : t7 ≡ true = both-left t7 (z 25) h25 in
-    let h6 : t6 ≡ true = both-left t6 (z 7) h7 in
+    let h41 : t41 ≡ true = and-left t41 (z 49) h in
+    let h33 : t33 ≡ true = and-left t33 (z 41) h41 in
+    let h25 : t25 ≡ true = and-left t25 (z 33) h33 in
+    let h7 : t7 ≡ true = and-left t7 (z 25) h25 in
+    let h6 : t6 ≡ true = and-left t6 (z 7) h7 in
     record {
-      inputs = ltb-true (byteAt s 0) 4 (both-left t0 (z 6) h6);
-      six = eqb-true (byteAt s 6) 0 (both-right t0 (z 6) h6);
-      seven = eqb-true (byteAt s 7) 0 (both-right t6 (z 7) h7);
-      first = eqb-true (byteAt s 25) 0 (both-right t7 (z 25) h25);
-      second = eqb-true (byteAt s 33) 0 (both-right t25 (z 33) h33);
-      third = eqb-true (byteAt s 41) 0 (both-right t33 (z 41) h41);
-      fourth = eqb-true (byteAt s 49) 0 (both-right t41 (z 49) h);
+      inputs = ltb-true (byteAt s 0) 4 (and-left t0 (z 6) h6);
+      six = eqb-true (byteAt s 6) 0 (and-right t0 (z 6) h6);
+      seven = eqb-true (byteAt s 7) 0 (and-right t6 (z 7) h7);
+      first = eqb-true (byteAt s 25) 0 (and-right t7 (z 25) h25);
+      second = eqb-true (byteAt s 33) 0 (and-right t25 (z 33) h33);
+      third = eqb-true (byteAt s 41) 0 (and-right t33 (z 41) h41);
+      fourth = eqb-true (byteAt s 49) 0 (and-right t41 (z 49) h);
     }
 
 -- a piece written back, and the rest
@@ -264,13 +265,13 @@ entry-put e s s₁ s₂ e₁ e₂ =
 -- check 31 taken apart, and what passes it: an entry as the paper says that fits its bytes
 pub entry-form : (s : List ℕ) → entryBytes s ≡ true → entryForm s ≡ true
 unfolding entryBytes
-entry-form s h = both-left (entryForm s) (entryFits (decodeEntry s)) h
+entry-form s h = and-left (entryForm s) (entryFits (decodeEntry s)) h
 
 pub entry-fits : (s : List ℕ) → entryBytes s ≡ true → entryFits (decodeEntry s) ≡ true
 unfolding entryBytes
-entry-fits s h = both-right (entryForm s) (entryFits (decodeEntry s)) h
+entry-fits s h = and-right (entryForm s) (entryFits (decodeEntry s)) h
 
 pub entry-encode : (e : Entry) → EntryFits e → entryFits e ≡ true → entryBytes (encodeEntry e) ≡ true
 unfolding entryBytes
 entry-encode e f h =
-    both-join (entryForm (encodeEntry e)) (entryFits (decodeEntry (encodeEntry e))) (encode-form e (f .four)) (ap entryFits (decode-encode e f) ∙ h)
+    and-join (entryForm (encodeEntry e)) (entryFits (decodeEntry (encodeEntry e))) (encode-form e (f .four)) (ap entryFits (decode-encode e f) ∙ h)

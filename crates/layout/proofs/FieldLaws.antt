@@ -2,7 +2,6 @@
 -- For the laws of records, frame entries and events.
 use Prim.Native.Nat.{ℕ, zero, suc, _+_, _^_, _≤_, _<_}
 use mathlib.Core.Path.{_≡_, refl, sym, _∙_}
-use mathlib.Core.Bool.{Bool, true, false, _&&_}
 use mathlib.Core.List.{List, [], _∷_, _++_, append-nil}
 use native.Mathlib.Omega.{arith}
 use native.Mathlib.Nat.{pow-succ', mul-le-mul-left, one-le-pow}
@@ -41,19 +40,6 @@ pub field-last : (w i : ℕ) (s : List ℕ) → Bytes s → length s ≡ i + w �
 field-last w i s b l =
     sym (append-nil (bytes w (numberAt w s i)))
     ∙ field-back w i s [] b (omega arith) (sym (drop-of-length-le s {i = i + w} (omega arith)))
-
--- a conjunction of tests taken apart
-pub both-left : (a b : Bool) → a && b ≡ true → a ≡ true
-both-left true b h = refl
-both-left false b h = h
-
-pub both-right : (a b : Bool) → a && b ≡ true → b ≡ true
-both-right true b h = h
-both-right false true h = refl
-both-right false false h = h
-
-pub both-join : (a b : Bool) → a ≡ true → b ≡ true → a && b ≡ true
-both-join a b p q = rw (p, q)
 
 -- a list made of bytes and of fields is of bytes
 pub data Joined : List ℕ → Type 0 where

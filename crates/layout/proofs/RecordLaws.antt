@@ -15,7 +15,8 @@ use Rattle.block.specs.declared.record.Record.{Record}
 use Rattle.layout.specs.Buffer.{byteAt, jobWidth}
 use Rattle.layout.specs.RecordLayout.{bit, flagsByte, encodeRecord, decodeRecord, recordForm, soundBytes, RecordFits}
 use Rattle.layout.proofs.BitLaws.{bit-le, bit-trip, bit-back, flags-bound, flags-trip, flags-back}
-use Rattle.layout.proofs.FieldLaws.{field-bound, field-back, field-last, byte-back, byte, field, joined-bytes, last-field, both-left, both-right, both-join}
+use Rattle.kind.proofs.Logic.{and-left, and-right, and-join}
+use Rattle.layout.proofs.FieldLaws.{field-bound, field-back, field-last, byte-back, byte, field, joined-bytes, last-field}
 
 pub encode-length : (r : Record) → length (encodeRecord r) ≡ 32
 unfolding encodeRecord bytes
@@ -50,15 +51,15 @@ form-bytes s h =
     let q = f && leb (byteAt s 2) 1 in
     let t = q && eqb (byteAt s 3) 0 in
     let u = t && eqb (byteAt s 10) 0 in
-    let hu : u ≡ true = both-left u (eqb (byteAt s 11) 0) h in
-    let ht : t ≡ true = both-left t (eqb (byteAt s 10) 0) hu in
-    let hq : q ≡ true = both-left q (eqb (byteAt s 3) 0) ht in
+    let hu : u ≡ true = and-left u (eqb (byteAt s 11) 0) h in
+    let ht : t ≡ true = and-left t (eqb (byteAt s 10) 0) hu in
+    let hq : q ≡ true = and-left q (eqb (byteAt s 3) 0) ht in
     record {
-      flags = ltb-true (byteAt s 1) 16 (both-left f (leb (byteAt s 2) 1) hq);
-      request = leb-true (byteAt s 2) 1 (both-right f (leb (byteAt s 2) 1) hq);
-      three = eqb-true (byteAt s 3) 0 (both-right q (eqb (byteAt s 3) 0) ht);
-      ten = eqb-true (byteAt s 10) 0 (both-right t (eqb (byteAt s 10) 0) hu);
-      eleven = eqb-true (byteAt s 11) 0 (both-right u (eqb (byteAt s 11) 0) h);
+      flags = ltb-true (byteAt s 1) 16 (and-left f (leb (byteAt s 2) 1) hq);
+      request = leb-true (byteAt s 2) 1 (and-right f (leb (byteAt s 2) 1) hq);
+      three = eqb-true (byteAt s 3) 0 (and-right q (eqb (byteAt s 3) 0) ht);
+      ten = eqb-true (byteAt s 10) 0 (and-right t (eqb (byteAt s 10) 0) hu);
+      eleven = eqb-true (byteAt s 11) 0 (and-right u (eqb (byteAt s 11) 0) h);
     }
 
 pub encode-decode : (s : List ℕ) → length s ≡ 32 → Bytes s → recordForm s ≡ true → encodeRecord (decodeRecord s) ≡ s
@@ -125,12 +126,12 @@ decode-fresh = refl
 -- check 21 taken apart, and what passes it: a sound record that fits its bytes
 pub sound-form : (k : ℕ) (s : List ℕ) → soundBytes k s ≡ true → recordForm s ≡ true
 unfolding soundBytes
-sound-form k s h = both-left (recordForm s) (sound k (decodeRecord s)) h
+sound-form k s h = and-left (recordForm s) (sound k (decodeRecord s)) h
 
 pub sound-record : (k : ℕ) (s : List ℕ) → soundBytes k s ≡ true → sound k (decodeRecord s) ≡ true
 unfolding soundBytes
-sound-record k s h = both-right (recordForm s) (sound k (decodeRecord s)) h
+sound-record k s h = and-right (recordForm s) (sound k (decodeRecord s)) h
 
 pub sound-encode : (k : ℕ) (r : Record) → RecordFits r → sound k r ≡ true → soundBytes k (encodeRecord r) ≡ true
 unfolding soundBytes
-sound-encode k r f h = both-join (recordForm (encodeRecord r)) (sound k (decodeRecord (encodeRecord r))) (encode-form r) (ap (sound k) (decode-encode r f) ∙ h)
+sound-encode k r f h = and-join (recordForm (encodeRecord r)) (sound k (decodeRecord (encodeRecord r))) (encode-form r) (ap (sound k) (decode-encode r f) ∙ h)

@@ -25,7 +25,8 @@ use Rattle.table.specs.declared.place.Place.the-variants.{Slot}
 use Rattle.table.specs.declared.place.Verdict.the-variants.{Passed}
 use Rattle.table.specs.declared.check.Checked.the-variants.{Blocks}
 use Rattle.table.specs.declared.blocks.Wire.{Wire}
-use Rattle.table.proofs.Logic.{by-test, not-both, and-left, and-right, not-failed, group-passes, rest-passes}
+use Rattle.kind.proofs.Logic.{by-test, not-both, and-left, and-right}
+use Rattle.table.proofs.Logic.{not-failed, group-passes, rest-passes}
 use Rattle.table.proofs.AmongLaws.{position-bound, position-some, all-at, all-among}
 use Rattle.table.proofs.ChainLaws.{chain-in, chain-few, chain-distinct, has-slot}
 use Rattle.table.proofs.TagLaws.{same-self}

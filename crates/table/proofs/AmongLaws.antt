@@ -12,7 +12,7 @@ use lib.ListN.{length, getD, take}
 use lib.Seq.{take-suc}
 use Rattle.table.specs.Walk.{among}
 use Rattle.table.specs.Chain.{positionFrom, positionOf}
-use Rattle.table.proofs.Logic.{by-test, not-both}
+use Rattle.kind.proofs.Logic.{by-test, not-both}
 
 -- one more at the end
 pub among-snoc : (k : ℕ) (xs : List ℕ) (x : ℕ) → among k (xs ++ (x ∷ [])) ≡ (among k xs || eqb x k)

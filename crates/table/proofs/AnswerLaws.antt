@@ -23,7 +23,7 @@ use Rattle.table.specs.declared.place.Place.the-variants.{Header, Slot}
 use Rattle.table.specs.declared.place.Verdict.{Verdict}
 use Rattle.table.specs.declared.place.Verdict.the-variants.{Passed, Failed}
 use Rattle.table.specs.declared.check.Checked.the-variants.{Refused}
-use Rattle.table.proofs.Logic.{by-test}
+use Rattle.kind.proofs.Logic.{by-test}
 use Rattle.table.proofs.AmongLaws.{AllIn}
 use Rattle.table.proofs.ChainLaws.{chain-in}
 

@@ -18,7 +18,7 @@ use Rattle.table.specs.declared.place.Place.{Place}
 use Rattle.table.specs.declared.place.Place.the-variants.{Header, Slot}
 use Rattle.table.specs.declared.place.Verdict.{Verdict}
 use Rattle.table.specs.declared.place.Verdict.the-variants.{Passed, Failed}
-use Rattle.table.proofs.Logic.{by-test}
+use Rattle.kind.proofs.Logic.{by-test}
 use Rattle.table.proofs.AmongLaws.{position-snoc, position-zero, position-some, position-test, among-at, AllIn, all-snoc, all-at}
 use Rattle.table.proofs.Walk.{unmet-nil, unmet-more, walk-ends, walk-above, walk-again, walk-onward}
 

@@ -21,7 +21,8 @@ use Rattle.table.specs.declared.place.Verdict.{Verdict}
 use Rattle.table.specs.declared.place.Verdict.the-variants.{Passed, Failed}
 use Rattle.table.specs.declared.check.Checked.{Checked}
 use Rattle.table.specs.declared.check.Checked.the-variants.{Blocks, Refused}
-use Rattle.table.proofs.Logic.{by-test, and-left, and-right, not-failed}
+use Rattle.kind.proofs.Logic.{by-test, and-left, and-right}
+use Rattle.table.proofs.Logic.{not-failed}
 
 -- what a header has that passed
 pub headed-by : (image : List ℕ) → headerCheck image ≡ Passed → Headed image

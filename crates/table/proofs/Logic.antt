@@ -1,30 +1,11 @@
--- Ways of reasoning by a test and by a verdict: for all proofs of this crate.
+-- Ways of reasoning by a verdict: for all proofs of this crate.
 use Prim.Native.Nat.{ℕ}
 use mathlib.Core.Path.{_≡_, refl}
-use mathlib.Core.Bool.{Bool, true, false, _&&_}
 use native.Mathlib.Omega.{arith}
 use Rattle.table.specs.Place.{andThen}
 use Rattle.table.specs.declared.place.Place.{Place}
 use Rattle.table.specs.declared.place.Verdict.{Verdict}
 use Rattle.table.specs.declared.place.Verdict.the-variants.{Passed, Failed}
-
--- the two ways of a test
-pub by-test {ℓ} : {P : Type ℓ} (b : Bool) → (b ≡ true → P) → (b ≡ false → P) → P
-by-test true f g = f refl
-by-test false f g = g refl
-
--- a test is not both
-pub not-both {ℓ} : {P : Type ℓ} (b : Bool) → b ≡ true → b ≡ false → P
-not-both b p q = let z : _≡_ {A = ℕ} 0 1 = cc in absurd (omega arith)
-
--- the two parts of a conjunction
-pub and-left : (a b : Bool) → a && b ≡ true → a ≡ true
-and-left true b e = refl
-and-left false b e = e
-
-pub and-right : (a b : Bool) → a && b ≡ true → b ≡ true
-and-right true b e = e
-and-right false b e = not-both false e refl
 
 -- a verdict that passes is none that fails
 pub not-failed {ℓ} : {P : Type ℓ} (v : Verdict) (number : ℕ) (place : Place) → v ≡ Failed number place → v ≡ Passed → P

@@ -11,7 +11,7 @@ use Rattle.table.specs.Image.{slotCount, headSlot, nextOf}
 use Rattle.table.specs.Walk.{among, Walked, Met, Stopped, Walk, ends, above, again, onward, atLink, unmet, walkIn, walkFrom, walked, WalkByRules}
 use Rattle.table.specs.declared.place.Place.{Place}
 use Rattle.table.specs.declared.place.Place.the-variants.{Header, Slot}
-use Rattle.table.proofs.Logic.{by-test}
+use Rattle.kind.proofs.Logic.{by-test}
 use Rattle.table.proofs.AmongLaws.{among-snoc}
 
 -- how many slots are not met: all at first,
