@@ -14,7 +14,7 @@ use Rattle.kind.specs.Kind.{isKind, isEdge, hasTimeOut}
 use Rattle.clock.specs.Clock.{tick}
 use Rattle.clock.specs.Clock.{start as begin}
 use Rattle.clock.specs.declared.Timer.{Timer}
-use Rattle.block.specs.Record.{Dormant, Executing}
+use Rattle.block.specs.Record.{Dormant, Executing, bit}
 use Rattle.block.specs.Event.{Start, DoneEvent, Failed, AbortedEvent, Withdrawn}
 use Rattle.block.specs.Entry.{entryFits}
 use Rattle.block.specs.Dormant.{timeOutTaken}
@@ -23,7 +23,7 @@ use Rattle.block.specs.Sound.{sound, zeroed, flagsFit, codeSound, reques
 use Rattle.block.specs.Call.{Outcome, callOf}
 use Rattle.block.specs.Turns.{Turns, end, start, finish, countOf, hasStart}
 use Rattle.block.specs.History.{History, fresh, _then_, entriesOf, recordAfter, tickAll, clocksOf, timerOf, takenTimeOut, timeOutInForce}
-use Rattle.block.specs.BlockInvariant.{seenCall, Made, noCall, andCall, isOpen, openJob, bit, flagCount, EachCall, nothing, andSeen, BlockInvariantHolds}
+use Rattle.block.specs.BlockInvariant.{seenCall, Made, noCall, andCall, isOpen, openJob, flagCount, EachCall, nothing, andSeen, BlockInvariantHolds}
 use Rattle.block.specs.declared.record.Record.{Record}
 use Rattle.block.specs.declared.event.Event.{Event}
 use Rattle.block.specs.declared.entry.Inputs.{Inputs}

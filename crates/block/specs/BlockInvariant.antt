@@ -7,7 +7,7 @@ use mathlib.Core.Option.{Option, none, some}
 use mathlib.Core.Path.{_≡_}
 use lib.Dec.{eqb}
 use Rattle.kind.specs.Kind.{isKind}
-use Rattle.block.specs.Record.{Dormant, Executing, Aborting}
+use Rattle.block.specs.Record.{Dormant, Executing, Aborting, bit}
 use Rattle.block.specs.Event.{Start, DoneEvent, Failed, AbortedEvent, Withdrawn}
 use Rattle.block.specs.Entry.{entryFits}
 use Rattle.block.specs.Sound.{sound}
@@ -35,9 +35,6 @@ isOpen n = eqb n Executing || eqb n Aborting
 
 abbrev pub openJob : Record → Option ℕ
 openJob r = cond (isOpen (r .step)) (some (r .job)) none
-
-abbrev pub bit : Bool → ℕ
-bit b = cond b 1 0
 
 -- how many flags are set
 abbrev pub flagCount : Flags → ℕ

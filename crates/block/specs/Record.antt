@@ -1,6 +1,6 @@
 -- Document 01, "State record": the steps, the fresh record, and the record at another step.
 use Prim.Native.Nat.{ℕ}
-use mathlib.Core.Bool.{true, false}
+use mathlib.Core.Bool.{Bool, true, false, cond}
 use Rattle.block.specs.declared.record.Flags.{Flags}
 use Rattle.block.specs.declared.record.Record.{Record}
 
@@ -25,6 +25,10 @@ Aborted = 5
 
 abbrev pub Resetting : ℕ
 Resetting = 6
+
+-- a flag as a number, 0 or 1
+abbrev pub bit : Bool → ℕ
+bit b = cond b 1 0
 
 -- no flag
 abbrev pub noFlags : Flags

@@ -11,11 +11,11 @@ use Rattle.table.specs.Blocks.{blocksOf, blockAt}
 use Rattle.layout.specs.Buffer.{recordLength, part}
 use Rattle.layout.specs.RecordLayout.{soundBytes}
 use Rattle.layout.specs.EventLayout.{eventsAt}
-use Rattle.block.specs.Record.{Dormant, Executing}
+use Rattle.block.specs.Record.{Dormant, Executing, bit}
 use Rattle.block.specs.Event.{Start, DoneEvent, Failed, AbortedEvent, Withdrawn}
 use Rattle.block.specs.Turns.{Turns, countOf}
 use Rattle.block.specs.History.{timerOf, takenTimeOut, timeOutInForce, entriesOf as entriesSeen}
-use Rattle.block.specs.BlockInvariant.{EachCall, isOpen, openJob, flagCount, bit}
+use Rattle.block.specs.BlockInvariant.{EachCall, isOpen, openJob, flagCount}
 use Rattle.block.specs.declared.record.Record.{Record}
 use Rattle.block.specs.declared.event.Event.{Event}
 use Rattle.engine.specs.Serve.{recordIn}

@@ -7,7 +7,8 @@ use native.Mathlib.Nat.{div-div-eq-div-mul, mod-eq-of-lt}
 use lib.Dec.{eqb}
 use Rattle.block.specs.declared.record.Flags.{Flags}
 use Rattle.block.specs.declared.entry.Inputs.{Inputs}
-use Rattle.layout.specs.RecordLayout.{bit, flagsByte, flagsOf}
+use Rattle.block.specs.Record.{bit}
+use Rattle.layout.specs.RecordLayout.{flagsByte, flagsOf}
 use Rattle.layout.specs.EntryLayout.{inputsByte, inputsOf}
 
 pub bit-le : (b : Bool) → bit b ≤ 1

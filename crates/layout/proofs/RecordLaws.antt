@@ -9,11 +9,11 @@ use lib.ListN.{length, replicate}
 use borrow.Author.Tests.{ltb-true, leb-true, eqb-true, lt-ltb, le-leb}
 use Rattle.words.specs.Word.{Bytes, number, bytes}
 use Rattle.words.proofs.WordLaws.{number-of-bytes}
-use Rattle.block.specs.Record.{freshRecord}
+use Rattle.block.specs.Record.{bit, freshRecord}
 use Rattle.block.specs.Sound.{sound}
 use Rattle.block.specs.declared.record.Record.{Record}
 use Rattle.layout.specs.Buffer.{byteAt, jobWidth}
-use Rattle.layout.specs.RecordLayout.{bit, flagsByte, encodeRecord, decodeRecord, recordForm, soundBytes, RecordFits}
+use Rattle.layout.specs.RecordLayout.{flagsByte, encodeRecord, decodeRecord, recordForm, soundBytes, RecordFits}
 use Rattle.layout.proofs.BitLaws.{bit-le, bit-trip, bit-back, flags-bound, flags-trip, flags-back}
 use Rattle.kind.proofs.Logic.{and-left, and-right, and-join}
 use Rattle.layout.proofs.FieldLaws.{field-bound, field-back, field-last, byte-back, byte, field, joined-bytes, last-field}

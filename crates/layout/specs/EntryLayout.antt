@@ -6,9 +6,10 @@ use lib.Dec.{eqb, ltb}
 use mathlib.Core.Path.{_≡_}
 use lib.ListN.{length}
 use Rattle.words.specs.Word.{bytes, numberAt}
+use Rattle.block.specs.Record.{bit}
 use Rattle.block.specs.Entry.{entryFits}
 use Rattle.layout.specs.Buffer.{byteAt, jobWidth, All}
-use Rattle.layout.specs.RecordLayout.{bit, bitOf}
+use Rattle.layout.specs.RecordLayout.{bitOf}
 use Rattle.block.specs.declared.entry.Inputs.{Inputs}
 use Rattle.block.specs.declared.entry.Piece.{Piece}
 use Rattle.block.specs.declared.entry.Entry.{Entry}

@@ -1,16 +1,14 @@
 -- Document 01, "State record": a record as 32 bytes, and back.
 use Prim.Native.Nat.{ℕ, _+_, _*_, _/_, _%_, _<_, _^_}
-use mathlib.Core.Bool.{Bool, cond, _&&_}
+use mathlib.Core.Bool.{Bool, _&&_}
 use mathlib.Core.List.{List, [], _∷_, _++_}
 use lib.Dec.{eqb, ltb, leb}
 use Rattle.words.specs.Word.{bytes, numberAt}
+use Rattle.block.specs.Record.{bit}
 use Rattle.block.specs.Sound.{sound}
 use Rattle.layout.specs.Buffer.{byteAt, jobWidth}
 use Rattle.block.specs.declared.record.Flags.{Flags}
 use Rattle.block.specs.declared.record.Record.{Record}
-
-abbrev pub bit : Bool → ℕ
-bit b = cond b 1 0
 
 -- the bit of a byte that has this weight
 abbrev pub bitOf : ℕ → ℕ → Bool

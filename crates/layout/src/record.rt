@@ -8,8 +8,9 @@ ghost use Prim.Native.Nat.{_+_, _<_, _≤_};
 ghost use lib.Dec.{eqb};
 ghost use lib.ListN.{length};
 ghost use Rattle.words.specs.Word.{numberAt};
+ghost use Rattle.block.specs.Record.{bit};
 ghost use Rattle.layout.specs.Buffer.{put};
-ghost use Rattle.layout.specs.RecordLayout.{bit, flagsByte, flagsOf, encodeRecord, decodeRecord, recordForm, soundBytes};
+ghost use Rattle.layout.specs.RecordLayout.{flagsByte, flagsOf, encodeRecord, decodeRecord, recordForm, soundBytes};
 
 pub fn bit(b: bool) -> u8
     ensures { λ r. ⌜ r ≡ bit b ⌝ }
