@@ -20,7 +20,7 @@ use Rattle.block.specs.Entry.{entryFits}
 use Rattle.block.specs.Dormant.{timeOutTaken}
 use Rattle.block.specs.Executing.{timeOutOf}
 use Rattle.block.specs.Sound.{sound, zeroed, flagsFit, codeSound, requestSound, stepSound, timesSound}
-use Rattle.block.specs.Call.{Outcome, callOf}
+use Rattle.block.specs.Call.{Outcome, callOf, Whole}
 use Rattle.block.specs.Turns.{Turns, end, start, finish, countOf, hasStart}
 use Rattle.block.specs.History.{History, fresh, _then_, entriesOf, recordAfter, tickAll, clocksOf, timerOf, takenTimeOut, timeOutInForce}
 use Rattle.block.specs.BlockInvariant.{seenCall, Made, noCall, andCall, isOpen, openJob, flagCount, EachCall, nothing, andSeen, BlockInvariantHolds}
@@ -32,7 +32,7 @@ use Rattle.kind.proofs.Logic.{and-right}
 use Rattle.block.proofs.Tests.{to-six}
 use Rattle.block.proofs.Tests.{none as no-case}
 use Rattle.block.proofs.Shapes.{isDone, isError, isAborted, Settled, idle, runs, aborts, shows, resets, withdraws, settled-of}
-use Rattle.block.proofs.CallLaws.{Whole, call-whole}
+use Rattle.block.proofs.CallLaws.{call-whole}
 use Rattle.block.proofs.SoundLaws.{call-sound}
 use Rattle.block.proofs.EventLaws.{turns-append, call-turns, call-jobs}
 use Rattle.block.proofs.TimeLaws.{Timing, call-time}

@@ -7,20 +7,14 @@ use mathlib.Core.Path.{_≡_, _∙_, refl, sym, ap}
 use lib.ListN.{length, length-append}
 use Rattle.block.specs.Entry.{entryFits}
 use Rattle.block.specs.Event.{emitted}
-use Rattle.block.specs.Sound.{sound}
 use Rattle.block.specs.Rules.{pass}
-use Rattle.block.specs.Call.{Outcome, lastly, first, Call, stops, goes, callWithin, callOf}
+use Rattle.block.specs.Call.{Outcome, lastly, first, Call, stops, goes, callWithin, callOf, CallIsWhole}
 use Rattle.block.specs.declared.record.Record.{Record}
 use Rattle.block.specs.declared.entry.Inputs.{Inputs}
 use Rattle.block.specs.declared.entry.Entry.{Entry}
 use Rattle.block.proofs.Tests.{choose, never}
 use Rattle.block.proofs.Shapes.{Shape, settled, settled-of}
 use Rattle.block.proofs.Passes.{rank, room, passed, rank-least, rank-most, room-most}
-
-pub record Whole (k : ℕ) (i : Inputs) (e : Entry) (r : Record) (o : Outcome) : Type 0 where
-  pub called : Call k i e r o
-  pub passes : o .passes ≤ 6
-  pub events : length (o .events) ≤ 2
 
 -- a whole call with the passes and events that the record has left
 record Ranked (k : ℕ) (i : Inputs) (e : Entry) (r : Record) (o : Outcome) : Type 0 where
@@ -56,7 +50,7 @@ module _ (k : ℕ) (i : Inputs) (e : Entry) where
       (λ h. let g = passed k i e s .lower h in goes-on r s h _ (within n (pass k i e r .next) (passed k i e s .after) (omega arith)))
       (λ h. ends r s h)
 
-pub call-whole : (k : ℕ) (i : Inputs) (e : Entry) (r : Record) → sound k r ≡ true → Whole k i e r (callOf k i e r)
+pub call-whole : CallIsWhole
 unfolding callOf
 call-whole k i e r h =
     let w = within k i e 5 r (settled (settled-of k (entryFits e ≡ true) r h)) (rank-most r) in

@@ -19,7 +19,7 @@ use Rattle.block.specs.Ended.{resetDue, ended}
 use Rattle.block.specs.Aborting.{aborting}
 use Rattle.block.specs.Resetting.{resetting}
 use Rattle.block.specs.Rules.{rule, pass}
-use Rattle.block.specs.Call.{Outcome, Call, stops, goes, lastly, first, callOf}
+use Rattle.block.specs.Call.{Outcome, Call, stops, goes, lastly, first, callOf, Whole}
 use Rattle.block.specs.CallResult.{outcomeOf, noPass, withPass}
 use Rattle.block.specs.declared.record.Record.{Record}
 use Rattle.block.specs.declared.entry.Inputs.{Inputs}
@@ -31,7 +31,6 @@ use Rattle.block.specs.declared.pass.Pass.{Pass}
 use Rattle.block.specs.declared.call.CallResult.{CallResult}
 use Rattle.kind.proofs.Logic.{by-test}
 use Rattle.block.proofs.Tests.{choose, none}
-use Rattle.block.proofs.CallLaws.{Whole}
 
 pieces-used : (several : Bool) (b : Bounds) (w : Work) (ps : List Piece) → usePieces several b w ps .used ≤ w .used + length ps
 unfolding usePieces

@@ -1,8 +1,10 @@
 -- Document 01, "One call": "A call repeats passes until one stops".
-use Prim.Native.Nat.{ℕ, zero, suc, _+_}
+use Prim.Native.Nat.{ℕ, zero, suc, _+_, _≤_}
 use mathlib.Core.Bool.{true, false, cond}
 use mathlib.Core.List.{List, _++_}
 use mathlib.Core.Path.{_≡_}
+use lib.ListN.{length}
+use Rattle.block.specs.Sound.{sound}
 use Rattle.block.specs.Event.{emitted}
 use Rattle.block.specs.Rules.{pass}
 use Rattle.block.specs.declared.record.Record.{Record}
@@ -31,7 +33,7 @@ pub data Call (k : ℕ) (i : Inputs) (e : Entry) : Record → Outcome → Type 0
   stops : (r : Record) → pass k i e r .again ≡ false → Call k i e r (lastly (pass k i e r))
   goes : (r : Record) (o : Outcome) → pass k i e r .again ≡ true → Call k i e (pass k i e r .next) o → Call k i e r (first (pass k i e r) o)
 
--- A call computed, with at most n passes before the last. From a sound record it is the Call for n = 5: call-whole, proofs/CallLaws.antt.
+-- A call computed, with at most n passes before the last. From a sound record it is the Call for n = 5: CallIsWhole.
 unfoldable pub callWithin : ℕ → ℕ → Inputs → Entry → Record → Outcome
 callWithin zero k i e r = lastly (pass k i e r)
 callWithin (suc n) k i e r =
@@ -39,3 +41,13 @@ callWithin (suc n) k i e r =
 
 unfoldable pub callOf : ℕ → Inputs → Entry → Record → Outcome
 callOf k i e r = callWithin 5 k i e r
+
+-- "A call repeats passes until one stops", of at most six passes and with the events of document 01, "at most two a block"
+pub record Whole (k : ℕ) (i : Inputs) (e : Entry) (r : Record) (o : Outcome) : Type 0 where
+  pub called : Call k i e r o
+  pub passes : o .passes ≤ 6
+  pub events : length (o .events) ≤ 2
+
+-- the computed call of a sound record is whole: proved in proofs/CallLaws.antt
+abbrev pub CallIsWhole : Type 0
+CallIsWhole = (k : ℕ) (i : Inputs) (e : Entry) (r : Record) → sound k r ≡ true → Whole k i e r (callOf k i e r)
