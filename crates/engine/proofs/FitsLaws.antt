@@ -11,10 +11,7 @@ use Rattle.kind.specs.Kind.{isEdge, hasTimeLimit, hasTimeOut, isContinuous}
 use Rattle.clock.specs.Clock.{tick, pastTimeOut}
 use Rattle.clock.specs.declared.Timer.{Timer}
 use Rattle.clock.proofs.ClockLaws.{tick-held}
-use Rattle.layout.specs.Buffer.{All, nil, cons}
-use Rattle.layout.specs.RecordLayout.{RecordFits}
-use Rattle.layout.specs.EntryLayout.{PieceFits, EntryFits}
-use Rattle.layout.specs.EventLayout.{EventFits}
+use Rattle.layout.proofs.Fits.{All, nil, cons, RecordFits, PieceFits, EntryFits, EventFits}
 use Rattle.block.specs.Record.{Dormant, Executing, Done, Error, Aborting, Aborted, Resetting, freshRecord, atStep, failedWith}
 use Rattle.block.specs.Event.{Start, DoneEvent, Failed, AbortedEvent, Withdrawn, emitted, noEvent, eventOf}
 use Rattle.block.specs.Entry.{Complete, ErrorReply}

@@ -6,9 +6,10 @@ use mathlib.Core.List.{List, _++_}
 use mathlib.Core.Path.{_≡_, refl, _∙_}
 use lib.ListN.{length, take, drop, length-append, length-drop, take-append-drop}
 use lib.Seq.{take-append-le, drop-append-le, drop-at, length-take-le}
-use Rattle.layout.specs.Buffer.{eventLength, put, All}
-use Rattle.layout.specs.EventLayout.{encodeEvents, decodeEvents, posted, EventFits}
-use Rattle.layout.proofs.EventLaws.{posted-length, posted-events, posted-fits, events-length, decode-split, decode-posted}
+use Rattle.layout.specs.Buffer.{eventLength, put}
+use Rattle.layout.specs.EventLayout.{encodeEvents, decodeEvents}
+use Rattle.layout.proofs.Fits.{All, EventFits}
+use Rattle.layout.proofs.EventLaws.{posted, posted-length, posted-events, posted-fits, events-length, decode-split, decode-posted}
 use Rattle.block.specs.declared.event.Event.{Event}
 
 -- the first events stand in front

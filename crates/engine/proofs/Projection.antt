@@ -10,14 +10,15 @@ use lib.ListN.{length}
 use borrow.Author.Tests.{ltb-true, ltb-false}
 use Rattle.table.specs.Blocks.{Block, blockAt}
 use Rattle.layout.specs.Buffer.{recordLength, entryLength, reportLength, eventLength, part, put}
-use Rattle.layout.specs.RecordLayout.{encodeRecord, decodeRecord, recordForm, RecordFits}
+use Rattle.layout.specs.RecordLayout.{encodeRecord, decodeRecord, recordForm}
+use Rattle.layout.proofs.Fits.{RecordFits}
 use Rattle.layout.specs.ReportLayout.{encodeReport, reportedPieces, reportedPasses}
-use Rattle.layout.specs.EventLayout.{Posted, encodeEvents, decodeEvents, posted, eventsAt}
+use Rattle.layout.specs.EventLayout.{Posted, encodeEvents, decodeEvents, eventsAt}
 use Rattle.layout.proofs.BufferLaws.{part-bytes}
 use Rattle.layout.proofs.RecordLaws.{encode-length, decode-encode, encode-form}
 use Rattle.layout.proofs.EntryLaws.{decode-fits}
 use Rattle.layout.proofs.ReportLaws.{report-length, reported-pieces, reported-passes}
-use Rattle.layout.proofs.EventLaws.{at-append, at-own, at-other}
+use Rattle.layout.proofs.EventLaws.{posted, at-append, at-own, at-other}
 use Rattle.block.specs.Call.{Outcome, callOf}
 use Rattle.block.specs.History.{Seen}
 use Rattle.block.specs.BlockInvariant.{seenCall}

@@ -12,7 +12,8 @@ use Rattle.table.specs.declared.place.Verdict.{Verdict}
 use Rattle.table.specs.declared.place.Verdict.the-variants.{Passed, Failed}
 use Rattle.table.specs.declared.check.Checked.the-variants.{Blocks as TableBlocks}
 use Rattle.layout.specs.Buffer.{recordLength, entryLength, part}
-use Rattle.layout.specs.RecordLayout.{recordForm, RecordFits}
+use Rattle.layout.specs.RecordLayout.{recordForm}
+use Rattle.layout.proofs.Fits.{RecordFits}
 use Rattle.layout.specs.EventLayout.{Posted, eventsAt}
 use Rattle.layout.proofs.BufferLaws.{part-bytes}
 use Rattle.layout.proofs.EntryLaws.{decode-fits, entry-fits}

@@ -14,8 +14,9 @@ use Rattle.words.proofs.WordLaws.{number-of-bytes}
 use Rattle.block.specs.Entry.{entryFits}
 use Rattle.block.specs.declared.entry.Piece.{Piece}
 use Rattle.block.specs.declared.entry.Entry.{Entry}
-use Rattle.layout.specs.Buffer.{byteAt, put, jobWidth, All, nil, cons}
-use Rattle.layout.specs.EntryLayout.{encodePiece, decodePiece, encodePieces, inputsByte, encodeEntry, decodeEntry, entryForm, entryBytes, PieceFits, EntryFits}
+use Rattle.layout.specs.Buffer.{byteAt, put, jobWidth}
+use Rattle.layout.specs.EntryLayout.{encodePiece, decodePiece, encodePieces, inputsByte, encodeEntry, decodeEntry, entryForm, entryBytes}
+use Rattle.layout.proofs.Fits.{All, nil, cons, PieceFits, EntryFits}
 use Rattle.layout.proofs.BitLaws.{inputs-bound, inputs-trip, inputs-back}
 use Rattle.layout.proofs.BufferLaws.{fill-whole}
 use Rattle.kind.proofs.Logic.{and-left, and-right, and-join}

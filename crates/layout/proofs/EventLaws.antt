@@ -13,8 +13,9 @@ use borrow.Author.Tests.{eq-eqb, ne-eqb}
 use Rattle.words.specs.Word.{Bytes, bytes}
 use Rattle.words.proofs.WordLaws.{number-of-bytes}
 use Rattle.block.specs.declared.event.Event.{Event}
-use Rattle.layout.specs.Buffer.{part, put, jobWidth, All, nil, cons}
-use Rattle.layout.specs.EventLayout.{Posted, encodeEvent, decodeEvent, encodeEvents, encodePosted, posted, decodeEvents, eventsAt, EventFits}
+use Rattle.layout.specs.Buffer.{part, put, jobWidth}
+use Rattle.layout.specs.EventLayout.{Posted, encodeEvent, decodeEvent, encodeEvents, decodeEvents, eventsAt}
+use Rattle.layout.proofs.Fits.{All, nil, cons, EventFits}
 use Rattle.layout.proofs.BufferLaws.{drop-put-same, window-before}
 use Rattle.layout.proofs.FieldLaws.{byte, field, joined-bytes, last-field}
 
@@ -33,6 +34,16 @@ decode-encode k v h =
       position = k;
       event = record { kind = v .kind; code = number-of-bytes 2 (v .code) (h .code) i; job = number-of-bytes jobWidth (v .job) (h .job) i };
     }
+
+-- events of any positions, one after the other
+unfoldable pub encodePosted : List Posted → List ℕ
+encodePosted [] = []
+encodePosted (p ∷ ps) = encodeEvent (p .position) (p .event) ++ encodePosted ps
+
+-- the events of a block with its position
+unfoldable pub posted : ℕ → List Event → List Posted
+posted position [] = []
+posted position (v ∷ vs) = record { position = position; event = v } ∷ posted position vs
 
 -- lists of events: their lengths, and the events of a block as events of its position
 pub posted-length : (k : ℕ) (vs : List Event) → length (posted k vs) ≡ length vs

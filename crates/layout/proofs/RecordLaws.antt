@@ -13,7 +13,8 @@ use Rattle.block.specs.Record.{bit, freshRecord}
 use Rattle.block.specs.Sound.{sound}
 use Rattle.block.specs.declared.record.Record.{Record}
 use Rattle.layout.specs.Buffer.{byteAt, jobWidth}
-use Rattle.layout.specs.RecordLayout.{flagsByte, encodeRecord, decodeRecord, recordForm, soundBytes, RecordFits}
+use Rattle.layout.specs.RecordLayout.{flagsByte, encodeRecord, decodeRecord, recordForm, soundBytes}
+use Rattle.layout.proofs.Fits.{RecordFits}
 use Rattle.layout.proofs.BitLaws.{bit-le, bit-trip, bit-back, flags-bound, flags-trip, flags-back}
 use Rattle.kind.proofs.Logic.{and-left, and-right, and-join}
 use Rattle.layout.proofs.FieldLaws.{field-bound, field-back, field-last, byte-back, byte, field, joined-bytes, last-field}

@@ -1,6 +1,6 @@
 -- Lengths by name, and entries of a buffer by their index: document 01, "State record, 32 bytes a position" and so on.
 use Prim.Native.Nat.{ℕ, _+_, _*_}
-use mathlib.Core.List.{List, [], _∷_, _++_}
+use mathlib.Core.List.{List, _++_}
 use lib.ListN.{length, take, drop, getD}
 
 -- "State record, 32 bytes a position"
@@ -33,8 +33,3 @@ part size i s = take size (drop (size * i) s)
 -- the buffer with the bytes v from a place on
 abbrev pub put : ℕ → List ℕ → List ℕ → List ℕ
 put at v s = take at s ++ (v ++ drop (at + length v) s)
-
--- each element of a list
-pub data All {A : Type 0} (P : A → Type 0) : List A → Type 0 where
-  nil : All P []
-  cons : {x : A} {xs : List A} → P x → All P xs → All P (x ∷ xs)

@@ -1,14 +1,12 @@
 -- Document 01, "Frame entry": an entry as 56 bytes, and back.
-use Prim.Native.Nat.{ℕ, _+_, _*_, _<_, _^_}
+use Prim.Native.Nat.{ℕ, _+_, _*_}
 use mathlib.Core.Bool.{Bool, _&&_}
 use mathlib.Core.List.{List, [], _∷_, _++_}
 use lib.Dec.{eqb, ltb}
-use mathlib.Core.Path.{_≡_}
-use lib.ListN.{length}
 use Rattle.words.specs.Word.{bytes, numberAt}
 use Rattle.block.specs.Record.{bit}
 use Rattle.block.specs.Entry.{entryFits}
-use Rattle.layout.specs.Buffer.{byteAt, jobWidth, All}
+use Rattle.layout.specs.Buffer.{byteAt, jobWidth}
 use Rattle.layout.specs.RecordLayout.{bitOf}
 use Rattle.block.specs.declared.entry.Inputs.{Inputs}
 use Rattle.block.specs.declared.entry.Piece.{Piece}
@@ -73,21 +71,3 @@ entryForm s =
 -- check 31 of one entry
 unfoldable pub entryBytes : List ℕ → Bool
 entryBytes s = entryForm s && entryFits (decodeEntry s)
-
--- a piece, and an entry of four pieces, whose fields fit their bytes
-pub record PieceFits (p : Piece) : Type 0 where
-  pub reply : p .reply < 256
-  pub code : p .code < 256 ^ 2
-  pub clock : p .clock < 256 ^ 4
-
-pub record EntryFits (e : Entry) : Type 0 where
-  pub count : e .count < 256
-  pub abortReply : e .«abort_reply» < 256
-  pub resetReply : e .«reset_reply» < 256
-  pub abortCode : e .«abort_code» < 256 ^ 2
-  pub job : e .job < 256 ^ jobWidth
-  pub limit : e .limit < 256 ^ 4
-  pub timeout : e .timeout < 256 ^ 4
-  pub clock : e .clock < 256 ^ 4
-  pub four : length (e .pieces) ≡ 4
-  pub pieces : All PieceFits (e .pieces)

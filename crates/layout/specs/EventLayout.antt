@@ -1,5 +1,5 @@
 -- Document 01, "Report and journal": journal events as 8 bytes each, and back.
-use Prim.Native.Nat.{ℕ, zero, suc, _+_, _<_, _^_}
+use Prim.Native.Nat.{ℕ, zero, suc}
 use mathlib.Core.Bool.{cond}
 use mathlib.Core.List.{List, [], _∷_, _++_}
 use lib.Dec.{eqb}
@@ -24,16 +24,6 @@ unfoldable pub encodeEvents : ℕ → List Event → List ℕ
 encodeEvents position [] = []
 encodeEvents position (v ∷ vs) = encodeEvent position v ++ encodeEvents position vs
 
--- events of any positions, one after the other
-unfoldable pub encodePosted : List Posted → List ℕ
-encodePosted [] = []
-encodePosted (p ∷ ps) = encodeEvent (p .position) (p .event) ++ encodePosted ps
-
--- the events of a block with its position
-unfoldable pub posted : ℕ → List Event → List Posted
-posted position [] = []
-posted position (v ∷ vs) = record { position = position; event = v } ∷ posted position vs
-
 -- the first n events of a journal
 unfoldable pub decodeEvents : ℕ → List ℕ → List Posted
 decodeEvents zero s = []
@@ -43,8 +33,3 @@ decodeEvents (suc n) s = decodeEvents n s ++ (decodeEvent (part eventLength n s)
 unfoldable pub eventsAt : ℕ → List Posted → List Event
 eventsAt position [] = []
 eventsAt position (p ∷ ps) = cond (eqb (p .position) position) (p .event ∷ eventsAt position ps) (eventsAt position ps)
-
--- an event whose numbers fit their bytes
-pub record EventFits (v : Event) : Type 0 where
-  pub code : v .code < 256 ^ 2
-  pub job : v .job < 256 ^ jobWidth

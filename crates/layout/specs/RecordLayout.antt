@@ -1,5 +1,5 @@
 -- Document 01, "State record": a record as 32 bytes, and back.
-use Prim.Native.Nat.{ℕ, _+_, _*_, _/_, _%_, _<_, _^_}
+use Prim.Native.Nat.{ℕ, _+_, _*_, _/_, _%_}
 use mathlib.Core.Bool.{Bool, _&&_}
 use mathlib.Core.List.{List, [], _∷_, _++_}
 use lib.Dec.{eqb, ltb, leb}
@@ -54,13 +54,3 @@ recordForm s =
 -- check 21 of one record of a kind
 unfoldable pub soundBytes : ℕ → List ℕ → Bool
 soundBytes k s = recordForm s && sound k (decodeRecord s)
-
--- a record whose fields fit their bytes
-pub record RecordFits (r : Record) : Type 0 where
-  pub step : r .step < 256
-  pub job : r .job < 256 ^ jobWidth
-  pub code : r .code < 256 ^ 2
-  pub limit : r .limit < 256 ^ 4
-  pub timeout : r .timeout < 256 ^ 4
-  pub last : r .timer .last < 256 ^ 4
-  pub elapsed : r .timer .elapsed < 256 ^ 8
