@@ -1,8 +1,8 @@
 -- What an accepted table has, for the layers above: a header that passed, N and the number of blocks at most 64, slots of 1 to N none
 -- twice, kinds 1 to 14, each wire from the frame or of a position of the table, tags in form none twice.
 use Prim.Native.Nat.{ℕ, zero, suc, _+_, _≤_, _<_}
-use mathlib.Core.Path.{_≡_, refl, ap, sym, _∙_}
-use mathlib.Core.List.{List, [], _∷_, _++_, append-assoc}
+use mathlib.Core.Path.{_≡_, refl, sym, _∙_}
+use mathlib.Core.List.{List, [], _∷_, _++_, append-assoc, append-nil}
 use mathlib.Core.Bool.{Bool, true, false}
 use mathlib.Core.Logic.{_⊎_, inl, inr}
 use native.Mathlib.Omega.{arith}
@@ -53,10 +53,6 @@ passes-record image chain repeated slot e =
     (λ s. not-failed _ 10 (Slot slot) refl (simp (k, t, r, s) at e))))
     (λ t. not-failed _ 8 (Slot slot) refl (simp (k, t) at e)))
     (λ k. not-failed _ 7 (Slot slot) refl (simp k at e))
-
-append-nil : (l : List ℕ) → l ++ [] ≡ l
-append-nil [] = refl
-append-nil (x ∷ l) = ap (λ (r : List ℕ). x ∷ r) (append-nil l)
 
 -- every record of slots that passed, with its tag against the earlier ones
 each-record : (image chain earlier rest : List ℕ) → recordsFrom image chain earlier rest ≡ Passed → (i : ℕ) → i < length rest
