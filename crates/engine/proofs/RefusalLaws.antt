@@ -17,20 +17,7 @@ use Rattle.layout.specs.Buffer.{recordLength, entryLength, reportLength, eventL
 use Rattle.layout.specs.RecordLayout.{soundBytes}
 use Rattle.layout.specs.EntryLayout.{entryBytes}
 use Rattle.engine.specs.Verify.{stateLength, stateSound, frameLength, frameForm, reportLengthIs, journalLength, verifyOf}
-
-sound-bounded : (i : ℕ) (bs : List Block) (state : List ℕ) (last : ℕ) → i + length bs ≤ last → Bounded 41 last (stateSound i bs state)
-unfolding stateSound
-sound-bounded i [] state last h = tt
-sound-bounded i (b ∷ bs) state last h =
-    bounded-require 41 last (soundBytes (b .kind) (part recordLength i state)) 21 (Position (suc i)) (stateSound (suc i) bs state) (omega arith) (omega arith) (omega arith)
-    (sound-bounded (suc i) bs state last (omega arith))
-
-form-bounded : (i : ℕ) (bs : List Block) (frame : List ℕ) (last : ℕ) → i + length bs ≤ last → Bounded 41 last (frameForm i bs frame)
-unfolding frameForm
-form-bounded i [] frame last h = tt
-form-bounded i (b ∷ bs) frame last h =
-    bounded-require 41 last (entryBytes (part entryLength i frame)) 31 (Position (suc i)) (frameForm (suc i) bs frame) (omega arith) (omega arith) (omega arith)
-    (form-bounded (suc i) bs frame last (omega arith))
+use Rattle.engine.proofs.VerifyLaws.{each-bounded, stateTest, stateCheck, state-each, frameTest, frameCheck, frame-each}
 
 -- checks 20 to 41
 pub verify-bounded : (blocks : List Block) (state frame report journal : List ℕ) → Bounded 41 (length blocks) (verifyOf blocks state frame report journal)
@@ -40,9 +27,9 @@ verify-bounded blocks state frame report journal =
     let rest = reportLengthIs blocks report (journalLength blocks journal Passed) in
     let given = frameLength blocks frame (andThen (frameForm 0 blocks frame) rest) in
     bounded-require 41 n (eqb (length state) (recordLength * n)) 20 Header (andThen (stateSound 0 blocks state) given) (omega arith) (omega arith) (omega arith)
-    (bounded-then 41 n (stateSound 0 blocks state) given (sound-bounded 0 blocks state n (omega arith))
+    (bounded-then 41 n (stateSound 0 blocks state) given (each-bounded (stateTest state) 21 (stateCheck state) (state-each state) 41 n 0 blocks (omega arith) (omega arith) (omega arith))
     (bounded-require 41 n (eqb (length frame) (entryLength * n)) 30 Header (andThen (frameForm 0 blocks frame) rest) (omega arith) (omega arith) (omega arith)
-    (bounded-then 41 n (frameForm 0 blocks frame) rest (form-bounded 0 blocks frame n (omega arith))
+    (bounded-then 41 n (frameForm 0 blocks frame) rest (each-bounded (frameTest frame) 31 (frameCheck frame) (frame-each frame) 41 n 0 blocks (omega arith) (omega arith) (omega arith))
     (bounded-require 41 n (eqb (length report) (reportLength * n)) 40 Header (journalLength blocks journal Passed) (omega arith) (omega arith) (omega arith)
     (bounded-require 41 n (leb (2 * eventLength * n) (length journal)) 41 Header Passed (omega arith) (omega arith) (omega arith) tt)))))
 

@@ -18,7 +18,7 @@ use Rattle.table.specs.declared.place.Verdict.{Verdict}
 use Rattle.table.specs.declared.place.Verdict.the-variants.{Passed, Failed}
 use Rattle.table.specs.declared.check.Checked.{Checked}
 use Rattle.table.specs.declared.check.Checked.the-variants.{Blocks as TableBlocks, Refused as TableRefused}
-use Rattle.table.proofs.Logic.{not-failed, group-passes, rest-passes}
+use Rattle.table.proofs.Logic.{require-this, require-below, group-passes, rest-passes}
 use Rattle.layout.specs.Buffer.{recordLength, entryLength, reportLength, eventLength, part}
 use Rattle.layout.specs.RecordLayout.{soundBytes}
 use Rattle.layout.specs.EntryLayout.{entryBytes}
@@ -29,54 +29,12 @@ use Rattle.engine.specs.Scan.{scanBlocks, scanOf}
 use Rattle.engine.specs.ScanAccepted.{StateFits, GivenFits, VerifyPassesExactly, ScanIsAccepted, EventsAreFew}
 use Rattle.engine.specs.declared.answer.Scanned.{Scanned}
 use Rattle.engine.specs.declared.answer.Scanned.the-variants.{Events, Refused}
+use Rattle.engine.proofs.VerifyLaws.{each-passed, each-passes, stateTest, stateCheck, state-each, frameTest, frameCheck, frame-each}
 use Rattle.engine.proofs.Projection.{buffersAt, events-few as two-each}
-
--- one check, and those below it
-require-this : (b : Bool) (number : ℕ) (place : Place) (below : Verdict) → require b number place below ≡ Passed → b ≡ true
-require-this true number place below e = refl
-require-this false number place below e = not-failed _ number place refl e
-
-require-below : (b : Bool) (number : ℕ) (place : Place) (below : Verdict) → require b number place below ≡ Passed → below ≡ Passed
-require-below true number place below e = e
-require-below false number place below e = not-failed _ number place refl e
 
 -- a check of a length
 length-is : (m n number : ℕ) (below : Verdict) → require (eqb m n) number Header below ≡ Passed → m ≡ n
 length-is m n number below e = eqb-true m n (require-this (eqb m n) number Header below e)
-
--- one test of each block from index i on: of its record (21), or of its entry (31)
-unfoldable every : (ℕ → Block → Bool) → ℕ → ℕ → List Block → Verdict
-every test number i [] = Passed
-every test number i (b ∷ bs) = require (test i b) number (Position (suc i)) (every test number (suc i) bs)
-
-every-passed : (test : ℕ → Block → Bool) (number i : ℕ) (bs : List Block) → every test number i bs ≡ Passed
-    → (j : ℕ) → j < length bs → test (i + j) (blockAt bs j) ≡ true
-unfolding every
-every-passed test number i [] e j l = absurd (omega arith)
-every-passed test number i (b ∷ bs) e zero l = rw add-zero (require-this (test i b) number (Position (suc i)) (every test number (suc i) bs) e)
-every-passed test number i (b ∷ bs) e (suc j) l =
-    let m : i + suc j ≡ suc i + j = omega arith in
-    rw m (every-passed test number (suc i) bs (require-below (test i b) number (Position (suc i)) (every test number (suc i) bs) e) j (omega arith))
-
-every-passes : (test : ℕ → Block → Bool) (number i : ℕ) (bs : List Block) → ((j : ℕ) → j < length bs → test (i + j) (blockAt bs j) ≡ true)
-    → every test number i bs ≡ Passed
-unfolding every
-every-passes test number i [] h = refl
-every-passes test number i (b ∷ bs) h =
-    let first : test i b ≡ true = rw add-zero at (h 0 (omega arith)) in
-    let rest : every test number (suc i) bs ≡ Passed =
-    every-passes test number (suc i) bs (λ j l. let m : suc i + j ≡ i + suc j = omega arith in rw m (h (suc j) (omega arith))) in
-    rw (first, rest)
-
-state-every : (i : ℕ) (bs : List Block) (state : List ℕ) → stateSound i bs state ≡ every (λ j b. soundBytes (b .kind) (part recordLength j state)) 21 i bs
-unfolding stateSound every
-state-every i [] state = refl
-state-every i (b ∷ bs) state = ap (require (soundBytes (b .kind) (part recordLength i state)) 21 (Position (suc i))) (state-every (suc i) bs state)
-
-frame-every : (i : ℕ) (bs : List Block) (frame : List ℕ) → frameForm i bs frame ≡ every (λ j b. entryBytes (part entryLength j frame)) 31 i bs
-unfolding frameForm every
-frame-every i [] frame = refl
-frame-every i (b ∷ bs) frame = ap (require (entryBytes (part entryLength i frame)) 31 (Position (suc i))) (frame-every (suc i) bs frame)
 
 module _ (blocks : List Block) (state frame report journal : List ℕ) where
   -- the checks below each one
@@ -97,11 +55,11 @@ module _ (blocks : List Block) (state frame report journal : List ℕ) where
 
   sound-each : stateSound 0 blocks state ≡ Passed → (k : ℕ) → k < length blocks → soundBytes (blockAt blocks k .kind) (part recordLength k state) ≡ true
   sound-each e k l =
-      rw zero-add at (every-passed (λ j b. soundBytes (b .kind) (part recordLength j state)) 21 0 blocks (sym (state-every 0 blocks state) ∙ e) k l)
+      rw zero-add at (each-passed (stateTest state) 21 (stateCheck state) (state-each state) 0 blocks e k l)
 
   form-each : frameForm 0 blocks frame ≡ Passed → (k : ℕ) → k < length blocks → entryBytes (part entryLength k frame) ≡ true
   form-each e k l =
-      rw zero-add at (every-passed (λ j b. entryBytes (part entryLength j frame)) 31 0 blocks (sym (frame-every 0 blocks frame) ∙ e) k l)
+      rw zero-add at (each-passed (frameTest frame) 31 (frameCheck frame) (frame-each frame) 0 blocks e k l)
 
   module _ (e : verifyOf blocks state frame report journal ≡ Passed) where
     state-passed : belowState ≡ Passed
@@ -143,9 +101,9 @@ module _ (blocks : List Block) (state frame report journal : List ℕ) where
   unfolding verifyOf
   all-pass s g =
       let sound : stateSound 0 blocks state ≡ Passed =
-      state-every 0 blocks state ∙ every-passes (λ j b. soundBytes (b .kind) (part recordLength j state)) 21 0 blocks (λ j l. rw zero-add (s .sound j l)) in
+      each-passes (stateTest state) 21 (stateCheck state) (state-each state) 0 blocks (λ j l. rw zero-add (s .sound j l)) in
       let form : frameForm 0 blocks frame ≡ Passed =
-      frame-every 0 blocks frame ∙ every-passes (λ j b. entryBytes (part entryLength j frame)) 31 0 blocks (λ j l. rw zero-add (g .form j l)) in
+      each-passes (frameTest frame) 31 (frameCheck frame) (frame-each frame) 0 blocks (λ j l. rw zero-add (g .form j l)) in
       rw (
         eq-eqb (length state) (recordLength * length blocks) (s .sized),
         sound,
