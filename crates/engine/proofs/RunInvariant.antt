@@ -25,11 +25,11 @@ use Rattle.engine.specs.RunInvariant.{BlockRun, RunInvariantHolds}
 use Rattle.engine.proofs.FitsLaws.{fresh-fits}
 use Rattle.engine.proofs.FreshLaws.{FreshMade, fresh-made, zeros-fresh, zeros-form}
 use Rattle.engine.proofs.ScanAccepted.{scan-accepted}
-use Rattle.engine.proofs.ScanLaws.{Held, Kept, verdictOf, resultBy, scan-is, held-by, kept-by, none-by}
+use Rattle.engine.proofs.ScanLaws.{Held, Kept, scanVerdict, resultBy, scan-is, held-by, kept-by, none-by}
 
 -- the list of scans, from fresh
 module _ (image buffer : List ℕ) (n : ℕ) (m : FreshMade image buffer n) where
-  result-is : (h : Scans) (g : Given) → resultOf image buffer h g ≡ resultBy (verdictOf image (stateAfter image buffer h) g) image (stateAfter image buffer h) g
+  result-is : (h : Scans) (g : Given) → resultOf image buffer h g ≡ resultBy (scanVerdict image (stateAfter image buffer h) g) image (stateAfter image buffer h) g
   result-is h g = scan-is image (stateAfter image buffer h) g n (m .table)
 
   fresh-is : freshOf image buffer .state ≡ replicate (recordLength * length (blocksOf image)) 0
@@ -46,7 +46,7 @@ module _ (image buffer : List ℕ) (n : ℕ) (m : FreshMade image buffer n) wher
       })
   held (andFrame {h = h} {g = g} x b) =
       let state = stateAfter image buffer h in
-      subst (λ (r : ScanResult). Held image (r .state)) (sym (result-is h g)) (held-by image buffer state g b (held x) (verdictOf image state g) refl)
+      subst (λ (r : ScanResult). Held image (r .state)) (sym (result-is h g)) (held-by image buffer state g b (held x) (scanVerdict image state g) refl)
 
   kept : (k : ℕ) → k < length (blocksOf image) → {h : Scans} → Framed h
       → Kept image k (historyOf image buffer k h) (journalOf image buffer h) (stateAfter image buffer h)
@@ -63,7 +63,7 @@ module _ (image buffer : List ℕ) (n : ℕ) (m : FreshMade image buffer n) wher
       (λ (r : ScanResult). Kept image k (withSeen image buffer k (historyOf image buffer k h) state g (r .answer) r)
       (withEvents image buffer (journalOf image buffer h) (r .answer) r) (r .state))
       (sym (result-is h g))
-      (kept-by image buffer state g b (held x) k l (verdictOf image state g) refl (historyOf image buffer k h) (journalOf image buffer h) (kept k l x))
+      (kept-by image buffer state g b (held x) k l (scanVerdict image state g) refl (historyOf image buffer k h) (journalOf image buffer h) (kept k l x))
 
   -- the record's bytes: its form, and its fields by the promise of one block
   sound-after : {h : Scans} → Framed h → (k : ℕ) → k < length (blocksOf image)
@@ -82,7 +82,7 @@ module _ (image buffer : List ℕ) (n : ℕ) (m : FreshMade image buffer n) wher
   none-past k l (andFrame {h = h} {g = g} x b) =
       let state = stateAfter image buffer h in
       subst (λ (r : ScanResult). eventsAt (suc k) (withEvents image buffer (journalOf image buffer h) (r .answer) r) ≡ []) (sym (result-is h g))
-      (none-by image buffer state g b (held x) k l (verdictOf image state g) refl (journalOf image buffer h) (none-past k l x))
+      (none-by image buffer state g b (held x) k l (scanVerdict image state g) refl (journalOf image buffer h) (none-past k l x))
 
 -- of one block
 block-run : (image buffer : List ℕ) (n : ℕ) → FreshMade image buffer n → {scans : Scans} → Framed scans

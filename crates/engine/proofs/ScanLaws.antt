@@ -42,23 +42,23 @@ pub record Kept (image : List ℕ) (k : ℕ) (h : History) (ps : List Posted) (s
   pub entries : eventsAt (suc k) ps ≡ entriesOf h
 
 -- the verdict of checks 20 to 41, and what a scan by a verdict leaves
-abbrev pub verdictOf : List ℕ → List ℕ → Given → Verdict
-verdictOf image state g = verifyOf (blocksOf image) state (g .frame) (g .report) (g .journal)
+abbrev pub scanVerdict : List ℕ → List ℕ → Given → Verdict
+scanVerdict image state g = verifyOf (blocksOf image) state (g .frame) (g .report) (g .journal)
 
 abbrev pub resultBy : Verdict → List ℕ → List ℕ → Given → ScanResult
 resultBy v image state g = scanBy v (blocksOf image) state (g .frame) (g .report) (g .journal)
 
 pub scan-is : (image state : List ℕ) (g : Given) (n : ℕ) → checkOf image ≡ TableBlocks n
-    → scanOf image state (g .frame) (g .report) (g .journal) ≡ resultBy (verdictOf image state g) image state g
+    → scanOf image state (g .frame) (g .report) (g .journal) ≡ resultBy (scanVerdict image state g) image state g
 unfolding scanOf scanBlocks
 scan-is image state g n e = rw e
 
 module _ (image buffer state : List ℕ) (g : Given) (framed : Bytes (g .frame)) (s : Held image state) where
   -- of a scan that passed checks 20 to 41
-  given : verdictOf image state g ≡ Passed → GivenFits (blocksOf image) (g .frame) (g .report) (g .journal)
+  given : scanVerdict image state g ≡ Passed → GivenFits (blocksOf image) (g .frame) (g .report) (g .journal)
   given e = verify-passes (blocksOf image) state (g .frame) (g .report) (g .journal) .givenFits e
 
-  pub held-by : (v : Verdict) → verdictOf image state g ≡ v → Held image (resultBy v image state g .state)
+  pub held-by : (v : Verdict) → scanVerdict image state g ≡ v → Held image (resultBy v image state g .state)
   held-by (Failed number place) e = s
   held-by Passed e =
       let r = given e .reportSized in
@@ -68,7 +68,7 @@ module _ (image buffer state : List ℕ) (g : Given) (framed : Bytes (g .frame))
         form = still-form (blocksOf image) (g .frame) state (g .report) (g .journal) (s .sized) r framed (s .fit);
       }
 
-  pub kept-by : (k : ℕ) → k < length (blocksOf image) → (v : Verdict) → verdictOf image state g ≡ v → (h : History) (ps : List Posted) → Kept image k h ps state
+  pub kept-by : (k : ℕ) → k < length (blocksOf image) → (v : Verdict) → scanVerdict image state g ≡ v → (h : History) (ps : List Posted) → Kept image k h ps state
       → Kept image k (withSeen image buffer k h state g (resultBy v image state g .answer) (resultBy v image state g))
       (withEvents image buffer ps (resultBy v image state g .answer) (resultBy v image state g)) (resultBy v image state g .state)
   unfolding recordAfter entriesOf
@@ -90,7 +90,7 @@ module _ (image buffer state : List ℕ) (g : Given) (framed : Bytes (g .frame))
       }
 
   -- past the last block no event has its position
-  pub none-by : (k : ℕ) → length (blocksOf image) ≤ k → (v : Verdict) → verdictOf image state g ≡ v → (ps : List Posted) → eventsAt (suc k) ps ≡ []
+  pub none-by : (k : ℕ) → length (blocksOf image) ≤ k → (v : Verdict) → scanVerdict image state g ≡ v → (ps : List Posted) → eventsAt (suc k) ps ≡ []
       → eventsAt (suc k) (withEvents image buffer ps (resultBy v image state g .answer) (resultBy v image state g)) ≡ []
   none-by k l (Failed number place) e ps x = x
   none-by k l Passed e ps x =

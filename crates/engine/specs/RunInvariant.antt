@@ -14,7 +14,7 @@ use Rattle.layout.specs.EventLayout.{eventsAt}
 use Rattle.block.specs.Record.{Dormant, Executing, bit}
 use Rattle.block.specs.Event.{Start, DoneEvent, Failed, AbortedEvent, Withdrawn}
 use Rattle.block.specs.Turns.{Turns, countOf}
-use Rattle.block.specs.History.{timerOf, takenTimeOut, timeOutInForce, entriesOf as entriesSeen}
+use Rattle.block.specs.History.{timerOf, takenTimeOut, timeOutInForce, entriesOf}
 use Rattle.block.specs.BlockInvariant.{EachCall, isOpen, openJob, flagCount}
 use Rattle.block.specs.declared.record.Record.{Record}
 use Rattle.block.specs.declared.event.Event.{Event}
@@ -25,39 +25,39 @@ use Rattle.engine.specs.declared.answer.Freshened.the-variants.{Blocks}
 
 module _ (image buffer : List ℕ) (scans : Scans) (k : ℕ) where
   -- the kind of the block at index k, whose position is k + 1
-  abbrev pub kindOf : ℕ
-  kindOf = blockAt (blocksOf image) k .kind
+  abbrev pub blockKind : ℕ
+  blockKind = blockAt (blocksOf image) k .kind
 
   -- "Step and flags are those in the state buffer after the list."
-  abbrev pub recordOf : Record
-  recordOf = recordIn (stateAfter image buffer scans) k
+  abbrev pub blockRecord : Record
+  blockRecord = recordIn (stateAfter image buffer scans) k
 
   -- "A block's entries are the events there with its position."
-  abbrev pub entriesOf : List Event
-  entriesOf = eventsAt (suc k) (journalOf image buffer scans)
+  abbrev pub blockEntries : List Event
+  blockEntries = eventsAt (suc k) (journalOf image buffer scans)
 
   -- what holds of one block
   pub record BlockRun : Type 0 where
     -- "The entries, if any, begin with a start and take turns; the last may be a start", each finish with its start's job; a job is open in Executing and Aborting
-    pub turns : Turns kindOf none entriesOf (openJob recordOf)
+    pub turns : Turns blockKind none blockEntries (openJob blockRecord)
     -- starts are done, failed, aborted and withdrawn, and the open job
-    pub balance : countOf Start entriesOf
-        ≡ countOf DoneEvent entriesOf + countOf Failed entriesOf + countOf AbortedEvent entriesOf + countOf Withdrawn entriesOf + bit (isOpen (recordOf .step))
+    pub balance : countOf Start blockEntries
+        ≡ countOf DoneEvent blockEntries + countOf Failed blockEntries + countOf AbortedEvent blockEntries + countOf Withdrawn blockEntries + bit (isOpen (blockRecord .step))
     -- no flag in Dormant, one in every other step
-    pub flags : flagCount (recordOf .flags) ≡ cond (eqb (recordOf .step) Dormant) 0 1
+    pub flags : flagCount (blockRecord .flags) ≡ cond (eqb (blockRecord .step) Dormant) 0 1
     -- each accepted scan called the block by the rules, from the record before to the record after, with the passes (at most 6) and pieces of its report; "A start's job is that of the block's frame entry in the scan that wrote it"
-    pub calls : EachCall kindOf (historyOf image buffer k scans)
+    pub calls : EachCall blockKind (historyOf image buffer k scans)
     -- the entries are the events of these calls, in the order of the scans
-    pub entries : entriesOf ≡ entriesSeen (historyOf image buffer k scans)
+    pub entries : blockEntries ≡ entriesOf (historyOf image buffer k scans)
     -- in Executing with a time-out in force, elapsed as the readings give it is at most that
-    pub inTime : recordOf .step ≡ Executing → timeOutInForce kindOf (historyOf image buffer k scans) ≢ 0
-        → timerOf (historyOf image buffer k scans) .elapsed ≤ timeOutInForce kindOf (historyOf image buffer k scans)
+    pub inTime : blockRecord .step ≡ Executing → timeOutInForce blockKind (historyOf image buffer k scans) ≢ 0
+        → timerOf (historyOf image buffer k scans) .elapsed ≤ timeOutInForce blockKind (historyOf image buffer k scans)
     -- the record's elapsed and last reading are those that the readings give
-    pub elapsed : recordOf .step ≡ Executing → recordOf .timer ≡ timerOf (historyOf image buffer k scans)
+    pub elapsed : blockRecord .step ≡ Executing → blockRecord .timer ≡ timerOf (historyOf image buffer k scans)
     -- the stored time-out is the one that the last start took
-    pub stored : recordOf .step ≡ Executing → recordOf .timeout ≡ takenTimeOut kindOf (historyOf image buffer k scans)
+    pub stored : blockRecord .step ≡ Executing → blockRecord .timeout ≡ takenTimeOut blockKind (historyOf image buffer k scans)
     -- the bytes of its record are sound
-    pub sound : soundBytes kindOf (part recordLength k (stateAfter image buffer scans)) ≡ true
+    pub sound : soundBytes blockKind (part recordLength k (stateAfter image buffer scans)) ≡ true
 
 -- the claim: for every table and buffer of which fresh made a state, and every list of scans over them, it holds of each block
 pub record RunInvariant (image buffer : List ℕ) (scans : Scans) : Type 0 where

@@ -9,7 +9,7 @@ use Rattle.block.specs.declared.record.Flags.{Flags}
 use Rattle.block.specs.declared.entry.Inputs.{Inputs}
 use Rattle.block.specs.Record.{bit}
 use Rattle.layout.specs.RecordLayout.{flagsByte, flagsOf}
-use Rattle.layout.specs.EntryLayout.{inputsByte, inputsOf}
+use Rattle.layout.specs.EntryLayout.{inputsByte, decodeInputs}
 
 pub bit-le : (b : Bool) → bit b ≤ 1
 bit-le true = omega arith
@@ -71,14 +71,14 @@ flags-back n h =
 pub inputs-bound : (i : Inputs) → inputsByte i < 4
 inputs-bound i = omega (arith, bit-le (i .start), bit-le (i .abort))
 
-two-bits : (a b : Bool) → inputsOf (inputsByte (record { start = a; abort = b })) ≡ record { start = a; abort = b }
+two-bits : (a b : Bool) → decodeInputs (inputsByte (record { start = a; abort = b })) ≡ record { start = a; abort = b }
 two-bits true true = refl
 two-bits true false = refl
 two-bits false true = refl
 two-bits false false = refl
 
-pub inputs-trip : (i : Inputs) → inputsOf (inputsByte i) ≡ i
+pub inputs-trip : (i : Inputs) → decodeInputs (inputsByte i) ≡ i
 inputs-trip i = two-bits (i .start) (i .abort)
 
-pub inputs-back : (n : ℕ) → n < 4 → inputsByte (inputsOf n) ≡ n
+pub inputs-back : (n : ℕ) → n < 4 → inputsByte (decodeInputs n) ≡ n
 inputs-back n h = omega (arith, bit-back (n / 1 % 2) (omega arith), bit-back (n / 2 % 2) (omega arith))

@@ -27,8 +27,8 @@ encodePieces (p ∷ ps) = encodePiece p ++ encodePieces ps
 abbrev pub inputsByte : Inputs → ℕ
 inputsByte i = bit (i .start) + 2 * bit (i .abort)
 
-abbrev pub inputsOf : ℕ → Inputs
-inputsOf b = record { start = bitOf b 1; abort = bitOf b 2 }
+abbrev pub decodeInputs : ℕ → Inputs
+decodeInputs b = record { start = bitOf b 1; abort = bitOf b 2 }
 
 -- "1 piece count n, 0 to 4; 2 abort reply; 3 reset reply; 4-5 abort error code; 8-11 job ...; 12-15 time limit; 16-19 time-out; 20-23 clock at the call; from 24, four pieces of 8"
 unfoldable pub encodeEntry : Entry → List ℕ
@@ -45,7 +45,7 @@ encodeEntry e =
 unfoldable pub decodeEntry : List ℕ → Entry
 decodeEntry s =
     record {
-      inputs = inputsOf (byteAt s 0);
+      inputs = decodeInputs (byteAt s 0);
       count = byteAt s 1;
       «abort_reply» = byteAt s 2;
       «reset_reply» = byteAt s 3;

@@ -11,10 +11,10 @@ ghost use lib.ListN.{length, take, drop};
 ghost use Rattle.words.specs.Word.{numberAt};
 ghost use Rattle.block.specs.Entry.{codeFits, pieceForm, pieceFits};
 ghost use Rattle.layout.specs.Buffer.{byteAt, put};
-ghost use Rattle.layout.specs.EntryLayout.{inputsByte, inputsOf, encodePiece, decodePiece, encodePieces, encodeEntry, decodeEntry, entryBytes};
+ghost use Rattle.layout.specs.EntryLayout.{inputsByte, decodeInputs, encodePiece, decodePiece, encodePieces, encodeEntry, decodeEntry, entryBytes};
 
 pub fn inputs_of(b: u8) -> Inputs
-    ensures { λ i. ⌜ i ≡ inputsOf b ⌝ }
+    ensures { λ i. ⌜ i ≡ decodeInputs b ⌝ }
 {
     Inputs {
         start: b / 1 % 2 == 1,

@@ -46,12 +46,12 @@ foundAnswer (Refused number place) = refusal number (placeNumber place)
 abbrev pub slotAt : List ℕ → ℕ → ℕ
 slotAt image position = getD (chainOf image) (position - 1) 0
 
-abbrev pub shown : List ℕ → Found → List ℕ
-shown image (At position) = slotBytes image (slotAt image position)
-shown image (Refused number place) = []
+abbrev pub shownBytes : List ℕ → Found → List ℕ
+shownBytes image (At position) = slotBytes image (slotAt image position)
+shownBytes image (Refused number place) = []
 
 unfoldable pub showOf : List ℕ → List ℕ → List ℕ
-showOf image tag = shown image (findOf image tag)
+showOf image tag = shownBytes image (findOf image tag)
 
 -- what the code knows of the slot that it found
 abbrev pub FoundSlot : List ℕ → Found → ℕ → Type 0
