@@ -1,6 +1,6 @@
 -- Document 01, "One call": the rule of Dormant.
 use Prim.Native.Nat.{ℕ}
-use mathlib.Core.Bool.{Bool, true, false, cond, _&&_}
+use mathlib.Core.Bool.{true, cond, _&&_}
 use Rattle.kind.specs.Kind.{isEdge, hasTimeLimit, hasTimeOut}
 use Rattle.clock.specs.Clock.{start}
 use Rattle.block.specs.Record.{Executing}

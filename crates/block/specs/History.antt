@@ -1,6 +1,6 @@
 -- Document 01, "A list of scans": the history of one block, which knows no machine, and what is read off it alone.
 use Prim.Native.Nat.{ℕ}
-use mathlib.Core.Bool.{Bool, cond, _&&_}
+use mathlib.Core.Bool.{cond}
 use mathlib.Core.List.{List, [], _∷_, _++_}
 use lib.ListN.{take}
 use Rattle.kind.specs.Kind.{isEdge, hasTimeOut}

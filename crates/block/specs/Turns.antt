@@ -6,7 +6,7 @@ use mathlib.Core.Option.{Option, none, some}
 use mathlib.Core.Path.{_≡_}
 use lib.Dec.{eqb}
 use Rattle.kind.specs.Kind.{isEdge, hasAbort, hasTimeOut, isContinuous}
-use Rattle.block.specs.Event.{Start, DoneEvent, Failed, AbortedEvent, Withdrawn, isStart, isFinish}
+use Rattle.block.specs.Event.{DoneEvent, Failed, AbortedEvent, Withdrawn, isStart, isFinish}
 use Rattle.block.specs.declared.event.Event.{Event}
 
 -- the finishes that a kind has, and the codes of its events: "code (2; 0 unless failed)", and 1 only for To kinds

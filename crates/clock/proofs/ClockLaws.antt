@@ -1,9 +1,8 @@
 -- What the counted time means, before and after the counter's turn, and the laws of `tick` that the block machine and its history use.
 use Prim.Native.Nat.{ℕ, _+_, _-_, _<_, _≤_}
-use mathlib.Core.Bool.{true, false}
+use mathlib.Core.Bool.{false}
 use mathlib.Core.Path.{_≡_, refl}
 use native.Mathlib.Omega.{arith}
-use native.Mathlib.Nat.{mod-eq-of-lt}
 use Rattle.clock.specs.Clock.{since, start, tick, past}
 use Rattle.clock.specs.declared.Timer.{Timer}
 

@@ -1,21 +1,15 @@
 -- The bounds of checks 20 to 41: a number of 1 to 41, a place of at most the number of blocks. For the packing of answers.
-use Prim.Native.Nat.{ℕ, suc, _+_, _*_, _≤_}
+use Prim.Native.Nat.{ℕ, _*_}
 use native.Mathlib.Omega.{arith}
-use mathlib.Core.Bool.{Bool}
-use mathlib.Core.List.{List, [], _∷_}
-use mathlib.Core.Path.{_≡_, refl, ap, sym, _∙_}
+use mathlib.Core.List.{List}
 use lib.Dec.{eqb, leb}
 use lib.ListN.{length}
-use Rattle.table.specs.Place.{placeNumber, andThen}
-use Rattle.table.specs.Blocks.{Block, blocksOf}
-use Rattle.table.specs.declared.place.Place.{Place}
-use Rattle.table.specs.declared.place.Place.the-variants.{Header, Position}
-use Rattle.table.specs.declared.place.Verdict.{Verdict}
+use Rattle.table.specs.Place.{andThen}
+use Rattle.table.specs.Blocks.{Block}
+use Rattle.table.specs.declared.place.Place.the-variants.{Header}
 use Rattle.table.specs.declared.place.Verdict.the-variants.{Passed}
 use Rattle.table.proofs.AnswerLaws.{Bounded, bounded-require, bounded-then}
-use Rattle.layout.specs.Buffer.{recordLength, entryLength, reportLength, eventLength, part}
-use Rattle.layout.specs.RecordLayout.{soundBytes}
-use Rattle.layout.specs.EntryLayout.{entryBytes}
+use Rattle.layout.specs.Buffer.{recordLength, entryLength, reportLength, eventLength}
 use Rattle.engine.specs.Verify.{stateLength, stateSound, frameLength, frameForm, reportLengthIs, journalLength, verifyOf}
 use Rattle.engine.proofs.VerifyLaws.{each-bounded, stateTest, stateCheck, state-each, frameTest, frameCheck, frame-each}
 

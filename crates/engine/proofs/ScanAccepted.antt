@@ -1,11 +1,11 @@
 -- Which scans are accepted: checks 20 to 41 pass exactly for a state, a frame, a report and a journal that fit, and then a scan over an accepted
 -- table answers with its events, at most two a block. For the run promise, and so that it is about scans that are accepted.
-use Prim.Native.Nat.{ℕ, zero, suc, _+_, _*_, _≤_, _<_}
-use native.Mathlib.Nat.{add-zero, zero-add}
+use Prim.Native.Nat.{ℕ, _*_, _≤_, _<_}
+use native.Mathlib.Nat.{zero-add}
 use native.Mathlib.Omega.{arith}
-use mathlib.Core.Bool.{Bool, true, false}
-use mathlib.Core.List.{List, [], _∷_}
-use mathlib.Core.Path.{_≡_, refl, ap, sym, _∙_}
+use mathlib.Core.Bool.{true}
+use mathlib.Core.List.{List}
+use mathlib.Core.Path.{_≡_, refl}
 use lib.Dec.{eqb, leb}
 use lib.ListN.{length}
 use borrow.Author.Tests.{eqb-true, leb-true, eq-eqb, le-leb}
@@ -13,7 +13,7 @@ use Rattle.table.specs.Place.{require, andThen}
 use Rattle.table.specs.Blocks.{Block, blocksOf, blockAt}
 use Rattle.table.specs.Check.{checkOf}
 use Rattle.table.specs.declared.place.Place.{Place}
-use Rattle.table.specs.declared.place.Place.the-variants.{Position, Header}
+use Rattle.table.specs.declared.place.Place.the-variants.{Header}
 use Rattle.table.specs.declared.place.Verdict.{Verdict}
 use Rattle.table.specs.declared.place.Verdict.the-variants.{Passed, Failed}
 use Rattle.table.specs.declared.check.Checked.{Checked}

@@ -1,5 +1,5 @@
 -- Document 01: a fresh state. "Fresh is all zero."
-use Prim.Native.Nat.{ℕ, _*_}
+use Prim.Native.Nat.{ℕ}
 use mathlib.Core.List.{List}
 use lib.ListN.{length, replicate}
 use Rattle.table.specs.Place.{placeNumber, Answer, value, refusal}

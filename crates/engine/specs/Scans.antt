@@ -4,8 +4,8 @@ use mathlib.Core.Bool.{cond}
 use mathlib.Core.List.{List, [], _++_}
 use lib.Dec.{ltb}
 use Rattle.words.specs.Word.{Bytes}
-use Rattle.table.specs.Blocks.{Block, blocksOf, blockAt}
-use Rattle.layout.specs.Buffer.{recordLength, reportLength, part}
+use Rattle.table.specs.Blocks.{blocksOf, blockAt}
+use Rattle.layout.specs.Buffer.{reportLength, part}
 use Rattle.layout.specs.ReportLayout.{reportedPieces, reportedPasses}
 use Rattle.layout.specs.EventLayout.{Posted, decodeEvents, eventsAt}
 use Rattle.block.specs.declared.record.Flags.{Flags}

@@ -22,9 +22,7 @@ use Rattle.engine.specs.Fresh.{freshBy, freshAfter, freshOf, freshAnswer}
 use Rattle.engine.specs.Scan.{scanBy, scanAfter, scanBlocks, scanOf, scanAnswer}
 use Rattle.engine.specs.Verify.{stateLength, verifyOf}
 use Rattle.words.specs.Word.{Bytes}
-use Rattle.engine.specs.declared.answer.Freshened.the-variants.{Blocks as FreshBlocks}
-use Rattle.engine.specs.declared.answer.Scanned.{Scanned}
-use Rattle.engine.specs.declared.answer.Scanned.the-variants.{Events, Refused as ScanRefused}
+use Rattle.engine.specs.declared.answer.Scanned.the-variants.{Events}
 use Rattle.engine.proofs.RefusalLaws.{verify-bounded, length-bounded}
 use Rattle.engine.proofs.ScanAccepted.{events-few}
 use Rattle.table.proofs.AnswerLaws.{Bounded}

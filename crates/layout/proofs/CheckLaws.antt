@@ -17,7 +17,7 @@ use Rattle.block.specs.declared.entry.Piece.{Piece}
 use Rattle.block.proofs.Tests.{each}
 use Rattle.block.proofs.Shapes.{fresh-is}
 use Rattle.block.proofs.SoundSteps.{at-step, at-dormant}
-use Rattle.layout.specs.Buffer.{byteAt, jobWidth}
+use Rattle.layout.specs.Buffer.{byteAt}
 use Rattle.layout.specs.RecordLayout.{flagsByte, flagsOf, decodeRecord, recordForm, soundBytes}
 use Rattle.layout.specs.EntryLayout.{decodePiece, decodeEntry, entryForm, entryBytes}
 use Rattle.layout.proofs.BitLaws.{flags-back}

@@ -1,7 +1,7 @@
 -- One field of a layout, over its place and width: what is read fits the width, and what was read is written back as it stood.
 -- For the laws of records, frame entries and events.
 use Prim.Native.Nat.{ℕ, zero, suc, _+_, _^_, _≤_, _<_}
-use mathlib.Core.Path.{_≡_, refl, sym, _∙_}
+use mathlib.Core.Path.{_≡_, sym, _∙_}
 use mathlib.Core.List.{List, [], _∷_, _++_, append-nil}
 use native.Mathlib.Omega.{arith}
 use native.Mathlib.Nat.{pow-succ', mul-le-mul-left, one-le-pow}

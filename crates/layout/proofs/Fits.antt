@@ -1,5 +1,5 @@
 -- Records, frame entries and events whose fields fit their bytes: what the laws of writing and reading back ask for, here and in the engine.
-use Prim.Native.Nat.{ℕ, _<_, _^_}
+use Prim.Native.Nat.{_<_, _^_}
 use mathlib.Core.Path.{_≡_}
 use mathlib.Core.List.{List, [], _∷_}
 use lib.ListN.{length}
