@@ -130,6 +130,10 @@ module _ (k : ℕ) (F : Type 0) where
   busy-case n false j c l t w p f =
       subst (λ (x : ℕ). Settled k F (rec n busy false j x l t w)) (sym (code-zero c (and-left (Bool·beq (not (eqb c 0)) false) _ (p .code)))) (f (p .times))
 
+  due : (a b : Bool) → implies (a || true) b ≡ true → b ≡ true
+  due true b h = h
+  due false b h = h
+
   end-fits : (z : End) (n : ℕ) (q : Bool) (j c l t : ℕ) (w : Timer) → Parts k (rec n (endFlags z) q j c l t w) → EndFits k F z q c
   unfolding codeSound requestSound stepSound
   end-fits isDone n q j c l t w p =
@@ -138,20 +142,12 @@ module _ (k : ℕ) (F : Type 0) where
         not-true (isContinuous k) (due (eqb n Done) (not (isContinuous k)) (s .0)),
         λ g. not-true q (rw g at (p .request)),
       )
-    where
-      due : (a b : Bool) → implies (a || true) b ≡ true → b ≡ true
-      due true b h = h
-      due false b h = h
   end-fits isError n q j c l t w p = λ f. rw beq-on at (p .code)
   end-fits isAborted n q j c l t w p =
       let s = each (implies (eqb n Done || false) (not (isContinuous k))) (implies (eqb n Aborting) (leb 5 k) ∷ implies (eqb n Aborted || true) (hasAbort k) ∷ leb n 6 ∷ []) (p .step) in (
         code-zero c (and-left (Bool·beq (not (eqb c 0)) false) (implies (eqb c 1) (hasTimeOut k)) (p .code)),
         due (eqb n Aborted) (hasAbort k) (s .1 .1 .0),
       )
-    where
-      due : (a b : Bool) → implies (a || true) b ≡ true → b ≡ true
-      due true b h = h
-      due false b h = h
 
   -- a record whose flags are known
   Reads : ℕ → Flags → Bool → ℕ → ℕ → ℕ → ℕ → Timer → Type 0

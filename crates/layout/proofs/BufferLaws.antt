@@ -22,12 +22,7 @@ module _ (at : ℕ) (v s : List ℕ) (fits : at + length v ≤ length s) where
   pub put-length : length (put at v s) ≡ length s
   put-length = simp (length-append, length-drop) (omega (arith, front-length))
 
-  -- what stands before it, from it on, and after it
-  pub take-put : (b : ℕ) → b ≤ at → take b (put at v s) ≡ take b s
-  take-put b h =
-      take-append-le b (take at s) (v ++ drop (at + length v) s) (omega (arith, front-length))
-      ∙ sym (ap (take b) (sym (take-append-drop at s)) ∙ take-append-le b (take at s) (drop at s) (omega (arith, front-length)))
-
+  -- what stands from it on, and after it
   pub drop-put-same : drop at (put at v s) ≡ v ++ drop (at + length v) s
   drop-put-same = drop-at (take at s) (v ++ drop (at + length v) s) at front-length
 
@@ -124,12 +119,6 @@ fill-whole p n done chunk buf₀ buf ys l full e h =
     sym (drop-drop n p buf) ∙ ap (drop n) (ap (drop p) e ∙ drop-at done (drop p buf₀) p l) ∙ drop-drop n p buf₀ in
     h ∙ rw (full, front, back) (sym (append-assoc done chunk (drop (p + n) buf₀)))
 
-pub fill : (p n : ℕ) (done chunk buf₀ buf ys : List ℕ) → length done ≡ p → length chunk ≡ n → buf ≡ done ++ drop p buf₀
-    → ys ≡ chunk ++ drop n (take (length buf - p) (drop p buf))
-    → putMid p (length buf - p) buf ys ≡ (done ++ chunk) ++ drop (p + n) buf₀
-fill p n done chunk buf₀ buf ys l full e h =
-    fill-whole p n done chunk buf₀ buf (putMid p (length buf - p) buf ys) l full e (put-front p n buf chunk ys full h)
-
 -- nothing put is no change
 pub put-nothing : (a : ℕ) (xs : List ℕ) → put a [] xs ≡ xs
 put-nothing a xs = rw add-zero (take-append-drop a xs)
@@ -144,15 +133,5 @@ bytes-take (suc n) (x ∷ l) b (suc i) = bytes-take n l (λ j. b (suc j)) i
 pub bytes-drop : (n : ℕ) (l : List ℕ) → Bytes l → Bytes (drop n l)
 bytes-drop n l b i = rw getD-drop (b (n + i))
 
-pub bytes-append : (l m : List ℕ) → Bytes l → Bytes m → Bytes (l ++ m)
-bytes-append [] m b c i = c i
-bytes-append (x ∷ l) m b c zero = b 0
-bytes-append (x ∷ l) m b c (suc i) = bytes-append l m (λ j. b (suc j)) c i
-
 pub part-bytes : (size i : ℕ) (s : List ℕ) → Bytes s → Bytes (part size i s)
 part-bytes size i s b = bytes-take size (drop (size * i) s) (bytes-drop (size * i) s b)
-
-pub put-bytes : (at : ℕ) (v s : List ℕ) → Bytes v → Bytes s → Bytes (put at v s)
-put-bytes at v s c b =
-    bytes-append (take at s) (v ++ drop (at + length v) s) (bytes-take at s b)
-    (bytes-append v (drop (at + length v) s) c (bytes-drop (at + length v) s b))

@@ -20,7 +20,7 @@ use Rattle.layout.proofs.Fits.{All, nil, cons, PieceFits, EntryFits}
 use Rattle.layout.proofs.BitLaws.{inputs-bound, inputs-trip, inputs-back}
 use Rattle.layout.proofs.BufferLaws.{fill-whole}
 use Rattle.kind.proofs.Logic.{and-left, and-right, and-join}
-use Rattle.layout.proofs.FieldLaws.{field-bound, field-back, byte-back, byte, field, joined-bytes, Joined, none}
+use Rattle.layout.proofs.FieldLaws.{field-bound, field-back, byte-back}
 
 -- four pieces read back
 piece-trip : (p : Piece) → PieceFits p → _≡_ {A = Piece} (record { reply = p .reply; code = number (bytes 2 (p .code)); clock = number (bytes 4 (p .clock)) }) p
@@ -158,30 +158,6 @@ pub encode-length : (e : Entry) → length (e .pieces) ≡ 4 → length (encodeE
 unfolding encodeEntry bytes
 encode-length e l = omega (arith, pieces-length (e .pieces) l)
 
-pieces-joined : {ps : List Piece} → All PieceFits ps → Joined (encodePieces ps)
-unfolding encodePieces
-pieces-joined nil = none
-pieces-joined (cons {x = p} {xs = ps} h a) =
-    rw (append-assoc (bytes 2 (p .code)) (bytes 4 (p .clock)) (encodePieces ps))
-    (byte (p .reply) (h .reply) (byte 0 (omega arith) (field 2 (p .code) (field 4 (p .clock) (pieces-joined a)))))
-
-pub encode-bytes : (e : Entry) → EntryFits e → Bytes (encodeEntry e)
-unfolding encodeEntry
-encode-bytes e h =
-    joined-bytes
-    (byte (inputsByte (e .inputs)) (omega (arith, inputs-bound (e .inputs)))
-    (byte (e .count) (h .count)
-    (byte (e .«abort_reply») (h .abortReply)
-    (byte (e .«reset_reply») (h .resetReply)
-    (field 2 (e .«abort_code»)
-    (byte 0 (omega arith)
-    (byte 0 (omega arith)
-    (field jobWidth (e .job)
-    (field 4 (e .limit)
-    (field 4 (e .timeout)
-    (field 4 (e .clock)
-    (pieces-joined (h .pieces)))))))))))))
-
 -- the zero byte of each of four pieces
 pieces-form : (ps : List Piece) → length ps ≡ 4
     → (byteAt (encodePieces ps) 1 ≡ 0) × (byteAt (encodePieces ps) 9 ≡ 0) × (byteAt (encodePieces ps) 17 ≡ 0) × (byteAt (encodePieces ps) 25 ≡ 0)
@@ -263,11 +239,7 @@ entry-put e s s₁ s₂ e₁ e₂ =
     ap (λ (x : List ℕ). h ++ x) (sym (after-head e)) ∙ take-append-drop 24 (encodeEntry e) in
     e₂ ∙ rw (front, back) (sym (append-assoc h (encodePieces (e .pieces)) (drop 56 s)) ∙ ap (λ (x : List ℕ). x ++ drop 56 s) whole)
 
--- check 31 taken apart, and what passes it: an entry as the paper says that fits its bytes
-pub entry-form : (s : List ℕ) → entryBytes s ≡ true → entryForm s ≡ true
-unfolding entryBytes
-entry-form s h = and-left (entryForm s) (entryFits (decodeEntry s)) h
-
+-- what passes check 31: an entry as the paper says that fits its bytes
 pub entry-fits : (s : List ℕ) → entryBytes s ≡ true → entryFits (decodeEntry s) ≡ true
 unfolding entryBytes
 entry-fits s h = and-right (entryForm s) (entryFits (decodeEntry s)) h

@@ -1,6 +1,6 @@
--- Journal events: each read back, a journal that begins with encoded events, events put after those that are there, and the events of one position.
+-- Journal events: each read back, a journal that begins with encoded events, and the events of one position.
 -- For the engine's journal and for the journal of a list of scans.
-use Prim.Native.Nat.{ℕ, zero, suc, _+_, _*_, _≤_, _<_}
+use Prim.Native.Nat.{ℕ, zero, suc, _+_, _*_}
 use mathlib.Core.Path.{_≡_, refl, ap, _∙_}
 use mathlib.Core.Bool.{Bool, true, false, cond}
 use mathlib.Core.List.{List, [], _∷_, _++_, append-assoc, append-nil}
@@ -10,22 +10,16 @@ use lib.Dec.{eqb}
 use lib.ListN.{length, take, drop, length-append}
 use lib.Seq.{drop-drop, take-at, drop-at}
 use borrow.Author.Tests.{eq-eqb, ne-eqb}
-use Rattle.words.specs.Word.{Bytes, bytes}
+use Rattle.words.specs.Word.{bytes}
 use Rattle.words.proofs.WordLaws.{number-of-bytes}
 use Rattle.block.specs.declared.event.Event.{Event}
-use Rattle.layout.specs.Buffer.{part, put, jobWidth}
+use Rattle.layout.specs.Buffer.{jobWidth}
 use Rattle.layout.specs.EventLayout.{Posted, encodeEvent, decodeEvent, encodeEvents, decodeEvents, eventsAt}
 use Rattle.layout.proofs.Fits.{All, nil, cons, EventFits}
-use Rattle.layout.proofs.BufferLaws.{drop-put-same, window-before}
-use Rattle.layout.proofs.FieldLaws.{byte, field, joined-bytes, last-field}
 
 pub event-length : (k : ℕ) (v : Event) → length (encodeEvent k v) ≡ 8
 unfolding encodeEvent bytes
 event-length k v = refl
-
-pub event-bytes : (k : ℕ) (v : Event) → k < 256 → v .kind < 256 → Bytes (encodeEvent k v)
-unfolding encodeEvent
-event-bytes k v h n = joined-bytes (byte (v .kind) n (byte k h (field 2 (v .code) (last-field jobWidth (v .job)))))
 
 pub decode-encode : (k : ℕ) (v : Event) → EventFits v → decodeEvent (encodeEvent k v) ≡ record { position = k; event = v }
 unfolding decodeEvent encodeEvent bytes
@@ -60,11 +54,6 @@ pub posted-fits : (k : ℕ) {vs : List Event} → All EventFits vs → All (λ p
 unfolding posted
 posted-fits k nil = nil
 posted-fits k (cons h a) = cons h (posted-fits k a)
-
-pub encode-append : (ps qs : List Posted) → encodePosted (ps ++ qs) ≡ encodePosted ps ++ encodePosted qs
-unfolding encodePosted
-encode-append [] qs = refl
-encode-append (p ∷ ps) qs = rw (encode-append ps qs, append-assoc)
 
 pub encode-length : (ps : List Posted) → length (encodePosted ps) ≡ 8 * length ps
 unfolding encodePosted
@@ -108,23 +97,6 @@ decode-posted rest (cons {x = p} {xs = ps} h a) =
     ap (λ (s : List ℕ). decodeEvents (suc (length ps)) s) (first-posted p ps rest)
     ∙ decode-first (length ps) (e ++ r)
     ∙ rw (take-at e r 8 l, drop-at e r 8 l, decode-encode (p .position) (p .event) h, decode-posted rest a)
-
--- events put after the first n, of a journal with room for them
-pub decode-before : (n at : ℕ) (v s : List ℕ) → at + length v ≤ length s → 8 * n ≤ at → decodeEvents n (put at v s) ≡ decodeEvents n s
-unfolding decodeEvents
-decode-before zero at v s f h = refl
-decode-before (suc n) at v s f h =
-    let w : part 8 n (put at v s) ≡ part 8 n s = window-before at v s f (8 * n) 8 (omega arith) in
-    rw (w, decode-before n at v s f (omega arith))
-
-pub decode-put : (n k : ℕ) (s : List ℕ) {vs : List Event} → All EventFits vs → 8 * n + 8 * length vs ≤ length s
-    → decodeEvents (n + length vs) (put (8 * n) (encodeEvents k vs) s) ≡ decodeEvents n s ++ posted k vs
-decode-put n k s {vs} a f =
-    let v : List ℕ = encodeEvents k vs in
-    let g : 8 * n + length v ≤ length s = omega (arith, events-length k vs) in
-    let back : decodeEvents (length vs) (v ++ drop (8 * n + length v) s) ≡ posted k vs =
-    rw (posted-events k vs, ← posted-length k vs) (decode-posted (drop (8 * n + length (encodePosted (posted k vs))) s) (posted-fits k a)) in
-    rw (decode-split, decode-before n (8 * n) v s g (omega arith), drop-put-same (8 * n) v s g, back)
 
 -- the events of one position
 keep : (b : Bool) (v : Event) (l m : List Event) → cond b (v ∷ (l ++ m)) (l ++ m) ≡ cond b (v ∷ l) l ++ m

