@@ -42,7 +42,7 @@ callWithin (suc n) k i e r =
 unfoldable pub callOf : ℕ → Inputs → Entry → Record → Outcome
 callOf k i e r = callWithin 5 k i e r
 
--- "A call repeats passes until one stops", of at most six passes and with the events of document 01, "at most two a block"
+-- "A call repeats passes until one stops": a call of at most six passes, its events "at most two a block"
 pub record Whole (k : ℕ) (i : Inputs) (e : Entry) (r : Record) (o : Outcome) : Type 0 where
   pub called : Call k i e r o
   pub passes : o .passes ≤ 6
