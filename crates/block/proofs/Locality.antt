@@ -2,22 +2,17 @@
 -- a Dormant block whose start is false is called in one pass, writes no event, uses no piece and keeps its record.
 use Prim.Native.Nat.{ℕ}
 use mathlib.Core.Bool.{Bool, true, false, cond}
-use mathlib.Core.List.{[]}
 use mathlib.Core.Path.{_≡_, _∙_, refl, ap}
 use Rattle.block.specs.Record.{Dormant}
 use Rattle.block.specs.Dormant.{dormant}
 use Rattle.block.specs.Rules.{rule, pass}
 use Rattle.block.specs.Pass.{stop}
-use Rattle.block.specs.Call.{Outcome, lastly, callWithin, callOf}
+use Rattle.block.specs.Call.{lastly, unchanged, callWithin, callOf}
 use Rattle.block.specs.declared.record.Record.{Record}
 use Rattle.block.specs.declared.entry.Inputs.{Inputs}
 use Rattle.block.specs.declared.entry.Entry.{Entry}
 use Rattle.block.specs.declared.pass.Pass.{Pass}
 use Rattle.block.proofs.Tests.{never}
-
--- the outcome of a call that does nothing
-abbrev pub unchanged : Record → Outcome
-unchanged r = record { next = r; events = []; used = 0; passes = 1 }
 
 idle-pass : (k : ℕ) (i : Inputs) (e : Entry) (r : Record) → r .step ≡ Dormant → i .start ≡ false → pass k i e r ≡ stop 0 r
 unfolding rule dormant

@@ -1,7 +1,7 @@
 -- Document 01, "One call": "A call repeats passes until one stops".
 use Prim.Native.Nat.{ℕ, zero, suc, _+_, _≤_}
 use mathlib.Core.Bool.{true, false, cond}
-use mathlib.Core.List.{List, _++_}
+use mathlib.Core.List.{List, [], _++_}
 use mathlib.Core.Path.{_≡_}
 use lib.ListN.{length}
 use Rattle.block.specs.Sound.{sound}
@@ -27,6 +27,10 @@ lastly p = record { next = p .next; events = emitted (p .event); used = p .used;
 -- a pass, and the rest of the call after it; "Pieces used count the pieces that Executing took."
 abbrev pub first : Pass → Outcome → Outcome
 first p o = record { next = o .next; events = emitted (p .event) ++ o .events; used = p .used + o .used; passes = suc (o .passes) }
+
+-- the outcome of a call whose only pass stops and changes nothing
+abbrev pub unchanged : Record → Outcome
+unchanged r = record { next = r; events = []; used = 0; passes = 1 }
 
 -- A call, with no bound on its passes: "the last is the first whose rule doesn't go on again".
 pub data Call (k : ℕ) (i : Inputs) (e : Entry) : Record → Outcome → Type 0 where

@@ -8,7 +8,8 @@ ghost use mathlib.Core.Path.{_≡_};
 ghost use mathlib.Core.Bool.{true};
 ghost use Prim.Native.Nat.{_+_, _<_, _≤_};
 ghost use Rattle.block.specs.Sound.{sound};
-ghost use Rattle.block.specs.Call.{Call, callOf};
+ghost use Rattle.block.specs.Record.{freshRecord};
+ghost use Rattle.block.specs.Call.{Call, unchanged, callOf};
 ghost use Rattle.block.specs.CallResult.{outcomeOf, noPass, withPass};
 
 // What a call leaves: the record, its events (the first `count` of the two), the pieces used and the passes.
@@ -36,27 +37,59 @@ impl CallResult {
         }
     }
 
-    // One pass more.
-    fn add(mut self, p: Pass) -> CallResult
+    // The call of a fresh record whose start is false: one pass, which stops.
+    pub fn idle() -> CallResult
+        ensures { λ a. ⌜ outcomeOf a ≡ unchanged freshRecord ⌝ }
+    {
+        CallResult {
+            next: Record::fresh(),
+            first: Event::none(),
+            second: Event::none(),
+            count: 0,
+            used: 0,
+            passes: 1,
+        }
+    }
+
+    // One pass more; each result is written out, since a change in place keeps the whole account in memory.
+    fn add(self, p: Pass) -> CallResult
         requires { ⌜ (self .used + p .used < 256) × (self .passes < 255) ⌝ }
         ensures { λ a. ⌜ a ≡ withPass self p ⌝ }
     {
         let event = p.event;
         let next = p.next;
-        self.next = next;
-        self.used = self.used + p.used;
-        self.passes = self.passes + 1;
+        let first = self.first;
+        let second = self.second;
+        let used = self.used + p.used;
+        let passes = self.passes + 1;
         if event.kind == 0 {
-            return self;
+            return CallResult {
+                next,
+                first,
+                second,
+                count: self.count,
+                used,
+                passes,
+            };
         }
         if self.count == 0 {
-            self.first = event;
-            self.count = 1;
-            return self;
+            return CallResult {
+                next,
+                first: event,
+                second,
+                count: 1,
+                used,
+                passes,
+            };
         }
-        self.second = event;
-        self.count = 2;
-        self
+        CallResult {
+            next,
+            first,
+            second: event,
+            count: 2,
+            used,
+            passes,
+        }
     }
 }
 

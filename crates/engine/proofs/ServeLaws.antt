@@ -1,23 +1,31 @@
--- One block's step: the flags of a block by their byte, the events of a call appended, and the four parts of `served` put together. For the proofs of
--- `input_of`, `call_at`, `append_events` and `serve`.
+-- One block's step: the flags of a block by their byte, the events of a call appended, the four parts of `served` put together, and an idle
+-- block, which leaves all but its report entry as it was. For the proofs of `input_of`, `is_idle`, `call_at`, `append_events`, `serve_call` and `serve`.
 use Prim.Native.Nat.{ℕ, zero, suc, _+_, _*_, _≤_}
-use native.Mathlib.Nat.{add-assoc}
+use native.Mathlib.Nat.{add-zero, add-assoc}
 use native.Mathlib.Numerals.{add-one}
 use native.Mathlib.Omega.{arith}
 use mathlib.Core.List.{List, [], _∷_, _++_, append-assoc, append-nil}
+use mathlib.Core.Bool.{true, false, not, _&&_}
 use mathlib.Core.Path.{_≡_, refl, ap, sym, _∙_}
-use lib.Dec.{lit<}
-use lib.ListN.{length, take, drop, getD, length-append}
+use lib.Dec.{eqb, lit<}
+use lib.ListN.{length, take, drop, getD, length-append, replicate}
 use lib.Seq.{getD-take, getD-drop, take-at, length-take-le}
 use Rattle.table.specs.Blocks.{Block}
 use Rattle.table.specs.declared.blocks.Wire.{Wire}
-use Rattle.layout.specs.Buffer.{eventLength, put}
+use borrow.Author.Tests.{not-true, eqb-true}
+use Rattle.layout.specs.Buffer.{recordLength, eventLength, byteAt, part, put}
 use Rattle.layout.specs.RecordLayout.{flagsOf, encodeRecord, decodeRecord}
+use Rattle.layout.specs.EntryLayout.{decodeEntry, decodeInputs}
 use Rattle.layout.specs.ReportLayout.{encodeReport}
 use Rattle.layout.specs.EventLayout.{encodeEvent, encodeEvents}
-use Rattle.layout.proofs.BufferLaws.{drop-put, put-nothing}
+use Rattle.layout.proofs.BufferLaws.{drop-put, put-own, put-nothing, part-length}
+use Rattle.kind.proofs.Logic.{and-left, and-right}
+use Rattle.layout.proofs.RecordLaws.{encode-fresh, decode-fresh}
+use Rattle.layout.proofs.CheckLaws.{dormant-zeros}
 use Rattle.layout.proofs.EventLaws.{event-length}
-use Rattle.block.specs.Call.{Outcome, callOf}
+use Rattle.block.specs.Record.{Dormant, freshRecord}
+use Rattle.block.specs.Call.{Outcome, unchanged, callOf}
+use Rattle.block.proofs.Locality.{idle-call}
 use Rattle.block.specs.CallResult.{outcomeOf}
 use Rattle.block.specs.declared.call.CallResult.{CallResult}
 use Rattle.block.specs.declared.event.Event.{Event}
@@ -25,16 +33,13 @@ use Rattle.block.specs.declared.entry.Inputs.{Inputs}
 use Rattle.block.specs.declared.entry.Entry.{Entry}
 use Rattle.block.specs.declared.record.Record.{Record}
 use Rattle.engine.specs.Inputs.{flagsIn, inputOf, inputsOf}
-use Rattle.engine.specs.Serve.{Buffers, recordIn, entryIn, callIn, written, served}
+use Rattle.engine.specs.Callable.{Callable}
+use Rattle.engine.specs.Serve.{Buffers, recordIn, entryIn, untagged, idleIn, callIn, written, served}
 
 -- "1 flags": byte 1 of the block's record
 pub flags-at : (state : List ℕ) (i : ℕ) → flagsOf (getD state (32 * i + 1) 0) ≡ flagsIn state i
 unfolding decodeRecord
 flags-at state i = ap flagsOf (sym (getD-take 32 (drop (32 * i) state) 1 0 (lit< tt) ∙ getD-drop (32 * i) state 1 0))
-
--- a block as the code has it, without its tag
-abbrev pub untagged : ℕ → Wire → Wire → Block
-untagged kind start abort = record { kind = kind; tag = []; start = start; abort = abort }
 
 -- a call by its parts
 pub call-is : (kind : ℕ) (start abort : Wire) (i : ℕ) (frame state : List ℕ) (r : Record) (e : Entry) (inputs : Inputs) (o : Outcome)
@@ -45,6 +50,15 @@ unfolding callIn inputsOf
 call-is kind start abort i frame state r e inputs o er ee es ea eo =
     let ei : inputs ≡ inputsOf (untagged kind start abort) (flagsIn state) (e .inputs) = λ j. record { start = es j; abort = ea j } in
     eo ∙ (λ j. callOf kind (ei j) e (er j)) ∙ ap (λ (x : Entry). callOf kind (inputsOf (untagged kind start abort) (flagsIn state) (x .inputs)) x (recordIn state i)) ee
+
+-- step and inputs: byte 0 of the record and of the entry
+pub idle-at : (start : Wire) (i : ℕ) (frame state : List ℕ)
+    → eqb (getD state (32 * i) 0) Dormant && not (inputOf start (flagsIn state) (decodeInputs (getD frame (56 * i) 0) .start)) ≡ idleIn start i frame state
+unfolding idleIn decodeRecord decodeEntry
+idle-at start i frame state =
+    let step : getD (part 32 i state) 0 0 ≡ getD state (32 * i) 0 = getD-take 32 (drop (32 * i) state) 0 0 (lit< tt) ∙ rw add-zero at (getD-drop (32 * i) state 0 0) in
+    let bits : getD (part 56 i frame) 0 0 ≡ getD frame (56 * i) 0 = getD-take 56 (drop (56 * i) frame) 0 0 (lit< tt) ∙ rw add-zero at (getD-drop (56 * i) frame 0 0) in
+    rw (step, bits)
 
 -- a value put right after another
 put-put : (at : ℕ) (v w s : List ℕ) → at + length v + length w ≤ length s → put (at + length v) w (put at v s) ≡ put at (v ++ w) s
@@ -110,3 +124,27 @@ serve-is b i frame state report journal events a newState newReport newJournal c
     let f : newJournal ≡ put (8 * events) (encodeEvents (suc i) (outcomeOf a .events)) journal = rw add-one at ej in
     (λ j. record { state = es j; report = er j; journal = f j; events = ec j })
     ∙ ap (λ (o : Outcome). written i o (record { state = state; report = report; journal = journal; events = events })) eo
+
+-- an idle block: its record is 32 zero bytes and stays so, its report entry is that of a call that changes nothing, and it has no events
+pub idle-is : (b : Block) (i : ℕ) (frame state report journal : List ℕ) (events : ℕ) (a : CallResult) (newReport : List ℕ)
+    → Callable b i frame state → idleIn (b .start) i frame state ≡ true
+    → outcomeOf a ≡ unchanged freshRecord
+    → newReport ≡ put (12 * i) (encodeReport (outcomeOf a)) report
+    → _≡_ {A = Buffers} (record { state = state; report = newReport; journal = journal; events = events })
+    (served b i frame (record { state = state; report = report; journal = journal; events = events }))
+unfolding idleIn callIn inputsOf decodeRecord encodeEvents
+idle-is b i frame state report journal events a newReport c idle ea er =
+    let own = part recordLength i state in
+    let start = inputOf (b .start) (flagsIn state) (entryIn frame i .inputs .start) in
+    let dormant : recordIn state i .step ≡ Dormant = eqb-true (byteAt own 0) 0 (and-left (eqb (byteAt own 0) 0) (not start) idle) in
+    let off : start ≡ false = not-true start (and-right (eqb (byteAt own 0) 0) (not start) idle) in
+    let full : length own ≡ 32 = part-length 32 i state (c .own) in
+    let zeros : own ≡ replicate 32 0 = dormant-zeros own (omega arith) (b .kind) dormant full (c .isSound) in
+    let fresh : recordIn state i ≡ freshRecord = ap decodeRecord zeros ∙ decode-fresh in
+    let called : callIn b i frame state ≡ outcomeOf a = idle-call (b .kind) _ (entryIn frame i) (recordIn state i) dormant off ∙ ap unchanged fresh ∙ sym ea in
+    let kept : put (32 * i) (encodeRecord (a .next)) state ≡ state =
+    ap (λ (r : Record). put (32 * i) (encodeRecord r) state) (ap (λ (o : Outcome). o .next) ea)
+    ∙ ap (λ (v : List ℕ). put (32 * i) v state) (encode-fresh ∙ sym zeros) ∙ put-own (32 * i) 32 state (c .own) in
+    let none : outcomeOf a .events ≡ [] = ap (λ (o : Outcome). o .events) ea in
+    serve-is b i frame state report journal events a state newReport journal events (sym called) (sym kept) er
+    (rw none (sym (put-nothing (8 * events) journal))) (rw none (omega arith))

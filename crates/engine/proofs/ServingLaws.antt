@@ -29,12 +29,11 @@ use Rattle.block.specs.declared.entry.Entry.{Entry}
 use Rattle.block.proofs.Tests.{each}
 use Rattle.block.proofs.CallLaws.{call-whole}
 use Rattle.engine.specs.Inputs.{inputsOf}
-use Rattle.engine.specs.Serve.{Buffers, recordIn, entryIn, callIn, served, servedTo}
+use Rattle.engine.specs.Serve.{Buffers, recordIn, entryIn, callIn, served, servedTo, untagged}
 use Rattle.engine.specs.Callable.{Callable}
 use Rattle.engine.specs.ScanAccepted.{StateFits, GivenFits}
 use Rattle.engine.proofs.GridLaws.{grid-length}
 use Rattle.engine.proofs.Projection.{buffersAt, outcomeAt, state-length, state-later, events-few}
-use Rattle.engine.proofs.ServeLaws.{untagged}
 
 -- "piece count n, 0 to 4"
 count-few : (e : Entry) → entryFits e ≡ true → e .count ≤ 4
@@ -96,10 +95,9 @@ module _ (blocks : List Block) (frame state₀ report₀ journal₀ : List ℕ) 
   )
 
   -- the record of the next block is the one from before
-  serving-record : StateFits blocks state₀ → recordIn state i ≡ recordIn state₀ i
+  serving-record : StateFits blocks state₀ → part recordLength i state ≡ part recordLength i state₀
   serving-record s =
-      ap decodeRecord
-      (ap (λ (b : Buffers). part recordLength i (b .state)) (h .whole) ∙ state-later blocks frame state₀ report₀ journal₀ (s .sized) i i (h .within) (omega arith))
+      ap (λ (b : Buffers). part recordLength i (b .state)) (h .whole) ∙ state-later blocks frame state₀ report₀ journal₀ (s .sized) i i (h .within) (omega arith)
 
   module _ (kind : ℕ) (start abort : Wire) (ek : kind ≡ blockAt blocks i .kind) (es : start ≡ blockAt blocks i .start) (ea : abort ≡ blockAt blocks i .abort) where
     served-as : (b : Buffers) → served (untagged kind start abort) i frame b ≡ served (blockAt blocks i) i frame b
@@ -126,7 +124,7 @@ module _ (blocks : List Block) (frame state₀ report₀ journal₀ : List ℕ) 
             entry = omega (arith, g .frameSized);
             start = rw (es, eb) (omega (arith, z .0, s .sized, accepted-start image n ok i l .within));
             abort = rw (ea, eb) (omega (arith, z .0, s .sized, accepted-abort image n ok i l .within));
-            isSound = rw (ek, serving-record s) (sound-record (blockAt blocks i .kind) (part recordLength i state₀) (s .sound i (omega arith)));
+            isSound = rw (ek, serving-record s) (s .sound i (omega arith));
             pieces = count-few (entryIn frame i) (entry-fits (part entryLength i frame) (g .form i (omega arith)));
           },
           (

@@ -5,9 +5,9 @@ use mathlib.Core.List.{List}
 use mathlib.Core.Path.{_≡_}
 use lib.ListN.{length}
 use Rattle.table.specs.Blocks.{Block}
-use Rattle.layout.specs.Buffer.{recordLength, entryLength}
-use Rattle.block.specs.Sound.{sound}
-use Rattle.engine.specs.Serve.{recordIn, entryIn}
+use Rattle.layout.specs.Buffer.{recordLength, entryLength, part}
+use Rattle.layout.specs.RecordLayout.{soundBytes}
+use Rattle.engine.specs.Serve.{entryIn}
 
 pub record Callable (b : Block) (i : ℕ) (frame state : List ℕ) : Type 0 where
   pub few : i < 64
@@ -15,5 +15,5 @@ pub record Callable (b : Block) (i : ℕ) (frame state : List ℕ) : Type 0 wher
   pub entry : entryLength * i + entryLength ≤ length frame
   pub start : recordLength * b .start .position ≤ length state
   pub abort : recordLength * b .abort .position ≤ length state
-  pub isSound : sound (b .kind) (recordIn state i) ≡ true
+  pub isSound : soundBytes (b .kind) (part recordLength i state) ≡ true
   pub pieces : entryIn frame i .count ≤ 4

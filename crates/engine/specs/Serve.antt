@@ -1,6 +1,8 @@
 -- Document 01, "An accepted scan calls each block once, in chain order": one block's step over the lent buffers.
 use Prim.Native.Nat.{ℕ, zero, suc, _+_, _*_}
-use mathlib.Core.List.{List}
+use mathlib.Core.Bool.{Bool, not, _&&_}
+use mathlib.Core.List.{List, []}
+use lib.Dec.{eqb}
 use lib.ListN.{length}
 use Rattle.table.specs.Blocks.{Block, blockAt}
 use Rattle.layout.specs.Buffer.{recordLength, entryLength, reportLength, eventLength, part, put}
@@ -8,10 +10,12 @@ use Rattle.layout.specs.RecordLayout.{encodeRecord, decodeRecord}
 use Rattle.layout.specs.EntryLayout.{decodeEntry}
 use Rattle.layout.specs.ReportLayout.{encodeReport}
 use Rattle.layout.specs.EventLayout.{encodeEvents}
+use Rattle.table.specs.declared.blocks.Wire.{Wire}
+use Rattle.block.specs.Record.{Dormant}
 use Rattle.block.specs.Call.{Outcome, callOf}
 use Rattle.block.specs.declared.record.Record.{Record}
 use Rattle.block.specs.declared.entry.Entry.{Entry}
-use Rattle.engine.specs.Inputs.{flagsIn, inputsOf}
+use Rattle.engine.specs.Inputs.{flagsIn, inputOf, inputsOf}
 
 -- the lent buffers as they stand, and the events written so far
 pub record Buffers : Type 0 where
@@ -25,6 +29,14 @@ recordIn state i = decodeRecord (part recordLength i state)
 
 abbrev pub entryIn : List ℕ → ℕ → Entry
 entryIn frame i = decodeEntry (part entryLength i frame)
+
+-- a block without its tag, which no call reads
+abbrev pub untagged : ℕ → Wire → Wire → Block
+untagged kind start abort = record { kind = kind; tag = []; start = start; abort = abort }
+
+-- whether the block at index i, with this start wire, is idle: Dormant, and its start false
+unfoldable pub idleIn : Wire → ℕ → List ℕ → List ℕ → Bool
+idleIn start i frame state = eqb (recordIn state i .step) Dormant && not (inputOf start (flagsIn state) (entryIn frame i .inputs .start))
 
 -- the call of the block at index i: "A wired input reads that flag as it stands when the block is called"
 unfoldable pub callIn : Block → ℕ → List ℕ → List ℕ → Outcome

@@ -1,5 +1,6 @@
 // A fresh state, all zero.
 use crate::answer::Freshened;
+use layout::record::RECORD_BYTES;
 use table::check::Checked;
 use table::check::check_table;
 use table::place::Place;
@@ -39,7 +40,7 @@ pub fn fresh(image: &[u8], state: &mut [u8]) -> Freshened
     let Checked::Blocks(count) = answer else {
         return table_refusal(answer);
     };
-    if state.len() != 32 * count {
+    if state.len() != RECORD_BYTES * count {
         return Freshened::Refused(20, Place::Header);
     }
     clear(state);

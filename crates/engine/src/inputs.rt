@@ -1,6 +1,7 @@
 // Wires and frame to the inputs of a call.
 use block::entry::Inputs;
 use block::record::Flags;
+use layout::record::RECORD_BYTES;
 use table::blocks::Wire;
 ghost use mathlib.Core.Path.{_≡_};
 ghost use Prim.Native.Nat.{_*_, _≤_};
@@ -24,7 +25,7 @@ fn flag_of(n: u8, f: Flags) -> bool
 }
 
 // One input: the frame's bit, or a flag as it stands in the state.
-fn input_of(w: Wire, state: &[u8], bit: bool) -> bool
+pub fn input_of(w: Wire, state: &[u8], bit: bool) -> bool
     requires { ⌜ 32 * w .position ≤ length (now state) ⌝ }
     ensures { λ r. ⌜ r ≡ inputOf w (flagsIn (now (state .entry))) bit ⌝ }
 {
@@ -33,7 +34,7 @@ fn input_of(w: Wire, state: &[u8], bit: bool) -> bool
         return bit;
     }
     let i = position as usize - 1;
-    let flags = layout::record::flags_of(state[32 * i + 1]);
+    let flags = layout::record::flags_of(state[RECORD_BYTES * i + 1]);
     let flag = flag_of(w.flag, flags);
     if w.inverted {
         return !flag;

@@ -1,4 +1,8 @@
 // Checks 20 to 41, which only read.
+use layout::entry::ENTRY_BYTES;
+use layout::event::EVENT_BYTES;
+use layout::record::RECORD_BYTES;
+use layout::report::REPORT_BYTES;
 use table::place::Place;
 use table::place::Verdict;
 ghost use mathlib.Core.List.{List};
@@ -24,8 +28,8 @@ fn check_state(
     let mut i = 0;
     while i < count {
         let kind = table::blocks::kind_at(image, slots, positions, count, i);
-        let at = 32 * i;
-        let end = at + 32;
+        let at = RECORD_BYTES * i;
+        let end = at + RECORD_BYTES;
         if !layout::record::sound_bytes(kind, &state[at..end]) {
             return Verdict::Failed(21, Place::Position((i + 1) as u8));
         }
@@ -42,8 +46,8 @@ fn check_frame(frame: &[u8], count: usize) -> Verdict
 {
     let mut i = 0;
     while i < count {
-        let at = 56 * i;
-        let end = at + 56;
+        let at = ENTRY_BYTES * i;
+        let end = at + ENTRY_BYTES;
         if !layout::entry::entry_bytes(&frame[at..end]) {
             return Verdict::Failed(31, Place::Position((i + 1) as u8));
         }
@@ -66,24 +70,24 @@ pub fn verify(
     requires { ⌜ Accepted (now image) count (now slots) (now positions) ⌝ }
     ensures { λ r. ⌜ r ≡ verifyOf (blocksOf (now (image .entry))) (now (state .entry)) (now (frame .entry)) (now (report .entry)) (now (journal .entry)) ⌝ }
 {
-    if state.len() != 32 * count {
+    if state.len() != RECORD_BYTES * count {
         return Verdict::Failed(20, Place::Header);
     }
     let sound = check_state(image, slots, positions, count, state);
     let Verdict::Passed = sound else {
         return sound;
     };
-    if frame.len() != 56 * count {
+    if frame.len() != ENTRY_BYTES * count {
         return Verdict::Failed(30, Place::Header);
     }
     let form = check_frame(frame, count);
     let Verdict::Passed = form else {
         return form;
     };
-    if report.len() != 12 * count {
+    if report.len() != REPORT_BYTES * count {
         return Verdict::Failed(40, Place::Header);
     }
-    if journal.len() < 16 * count {
+    if journal.len() < 2 * EVENT_BYTES * count {
         return Verdict::Failed(41, Place::Header);
     }
     Verdict::Passed

@@ -5,10 +5,11 @@ use mathlib.Core.Bool.{Bool, true, false, _&&_, _||_}
 use mathlib.Core.List.{List, [], _∷_}
 use native.Mathlib.Omega.{arith}
 use lib.Dec.{eqb, ltb, leb}
-use lib.ListN.{length}
+use lib.ListN.{length, take, replicate}
+use lib.Seq.{take-all}
 use borrow.Author.Tests.{eqb-true, eqb-false, leb-true, eq-eqb, le-leb, lt-ltb, le-ltb}
-use Rattle.words.specs.Word.{numberAt}
-use Rattle.words.proofs.WordLaws.{number-one, number-split}
+use Rattle.words.specs.Word.{number, numberAt}
+use Rattle.words.proofs.WordLaws.{number-one, number-split, number-zero}
 use Rattle.block.specs.Record.{Dormant, freshRecord}
 use Rattle.block.specs.Sound.{zeroed, flagsFit, codeSound, requestSound, stepSound, timesSound, sound}
 use Rattle.block.specs.Entry.{codeFits, pieceForm, zeroPiece, pieceFits, piecesFit, entryFits}
@@ -122,6 +123,16 @@ module _ (s : List ℕ) (l : 32 ≤ length s) where
         let p = each (eqb (numberAt 8 s 0) 0) (eqb (numberAt 8 s 8) 0 ∷ eqb (numberAt 8 s 16) 0 ∷ eqb (numberAt 8 s 24) 0 ∷ []) h in
         zero-sound (eqb-true (numberAt 8 s 0) 0 (p .0)) (eqb-true (numberAt 8 s 8) 0 (p .1 .0)) (eqb-true (numberAt 8 s 16) 0 (p .1 .1 .0)) (eqb-true (numberAt 8 s 24) 0 (p .1 .1 .1)))
         (λ h. let z = sound-zero h in rw (z .0, z .1, z .2, z .3))
+
+    -- so a sound Dormant record is 32 zero bytes
+    pub dormant-zeros : length s ≡ 32 → soundBytes k s ≡ true → s ≡ replicate 32 0
+    dormant-zeros full h =
+        let z = sound-zero h in
+        let back : numberAt 16 s 16 ≡ 0 = number-split 8 8 s 16 (omega arith) ∙ rw (z .2, z .3) in
+        let rest : numberAt 24 s 8 ≡ 0 = number-split 8 16 s 8 (omega arith) ∙ rw (z .1, back) in
+        let all : numberAt 32 s 0 ≡ 0 = number-split 8 24 s 0 (omega arith) ∙ rw (z .0, rest) in
+        let whole : take 32 s ≡ s = take-all 32 s (omega arith) in
+        number-zero s (ap number (sym whole) ∙ all) ∙ ap (λ (n : ℕ). replicate n 0) full
 
 -- one piece: its zero byte, and its fields
 module _ (s : List ℕ) (at : ℕ) (l : at + 8 ≤ length s) where

@@ -13,6 +13,13 @@ ghost use Rattle.block.specs.Entry.{codeFits, pieceForm, pieceFits};
 ghost use Rattle.layout.specs.Buffer.{byteAt, put};
 ghost use Rattle.layout.specs.EntryLayout.{inputsByte, decodeInputs, encodePiece, decodePiece, encodePieces, encodeEntry, decodeEntry, entryBytes};
 
+// Bytes of a frame entry, and of each of its four pieces, which stand after its head.
+pub const ENTRY_BYTES: usize = 56;
+
+const PIECE_BYTES: usize = 8;
+
+const HEAD_BYTES: usize = 24;
+
 pub fn inputs_of(b: u8) -> Inputs
     ensures { λ i. ⌜ i ≡ decodeInputs b ⌝ }
 {
@@ -115,7 +122,7 @@ fn inputs_byte(i: Inputs) -> u8
 }
 
 // What stands before the pieces.
-fn head_bytes(e: Entry) -> [u8; 24]
+fn head_bytes(e: Entry) -> [u8; HEAD_BYTES]
     ensures { λ b. ⌜ b ≡ take 24 (encodeEntry e) ⌝ }
 {
     let code = words::u16_bytes(e.abort_code);
@@ -151,7 +158,7 @@ fn head_bytes(e: Entry) -> [u8; 24]
     ]
 }
 
-fn piece_bytes(p: Piece) -> [u8; 8]
+fn piece_bytes(p: Piece) -> [u8; PIECE_BYTES]
     ensures { λ b. ⌜ b ≡ encodePiece p ⌝ }
 {
     let code = words::u16_bytes(p.code);
@@ -199,10 +206,10 @@ pub fn write_entry(out: &mut [u8], e: Entry)
 }
 
 // The 56 bytes of an entry.
-pub fn entry_encode(e: Entry) -> [u8; 56]
+pub fn entry_encode(e: Entry) -> [u8; ENTRY_BYTES]
     ensures { λ b. ⌜ b ≡ encodeEntry e ⌝ }
 {
-    let mut b = [0; 56];
+    let mut b = [0; ENTRY_BYTES];
     write_entry(&mut b, e);
     b
 }

@@ -6,7 +6,10 @@ ghost use lib.ListN.{length};
 ghost use Rattle.layout.specs.Buffer.{put};
 ghost use Rattle.layout.specs.EventLayout.{encodeEvent};
 
-pub fn event_bytes(position: u8, v: Event) -> [u8; 8]
+// Bytes of a journal event.
+pub const EVENT_BYTES: usize = 8;
+
+pub fn event_bytes(position: u8, v: Event) -> [u8; EVENT_BYTES]
     ensures { λ b. ⌜ b ≡ encodeEvent position v ⌝ }
 {
     let job = words::u32_bytes(v.job);

@@ -12,6 +12,9 @@ ghost use Rattle.block.specs.Record.{bit};
 ghost use Rattle.layout.specs.Buffer.{put};
 ghost use Rattle.layout.specs.RecordLayout.{flagsByte, flagsOf, encodeRecord, decodeRecord, recordForm, soundBytes};
 
+// Bytes of a state record.
+pub const RECORD_BYTES: usize = 32;
+
 pub fn bit(b: bool) -> u8
     ensures { λ r. ⌜ r ≡ bit b ⌝ }
 {
@@ -57,7 +60,7 @@ pub fn record_of(s: &[u8]) -> Record
 }
 
 // The 32 bytes of a record.
-pub fn record_bytes(r: Record) -> [u8; 32]
+pub fn record_bytes(r: Record) -> [u8; RECORD_BYTES]
     ensures { λ b. ⌜ b ≡ encodeRecord r ⌝ }
 {
     let job = words::u32_bytes(r.job);

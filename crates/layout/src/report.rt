@@ -7,7 +7,10 @@ ghost use lib.ListN.{length, drop};
 ghost use Rattle.block.specs.CallResult.{outcomeOf};
 ghost use Rattle.layout.specs.ReportLayout.{encodeReport};
 
-pub fn report_bytes(a: CallResult) -> [u8; 12]
+// Bytes of a report entry.
+pub const REPORT_BYTES: usize = 12;
+
+pub fn report_bytes(a: CallResult) -> [u8; REPORT_BYTES]
     ensures { λ b. ⌜ b ≡ encodeReport (outcomeOf a) ⌝ }
 {
     let r = a.next;

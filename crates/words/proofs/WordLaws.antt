@@ -6,7 +6,7 @@ use mathlib.Core.List.{List, [], _∷_, _++_}
 use native.Mathlib.Omega.{arith}
 use native.Mathlib.Nat.{pow-succ', mul-assoc, mul-comm, mod-eq-of-lt, one-le-pow, mul-le-mul-left}
 use lib.Arith.{mod-mul}
-use lib.ListN.{length, getD, take, drop, length-drop}
+use lib.ListN.{length, getD, take, drop, length-drop, replicate}
 use lib.Seq.{drop-cons, drop-drop, take-add, length-take-le}
 use Rattle.words.specs.Word.{Bytes, number, bytes, numberAt}
 
@@ -28,6 +28,15 @@ pub number-split : (v w : ℕ) (s : List ℕ) (i : ℕ) → i + v ≤ length s �
 number-split v w s i h =
     let n : length (take v (drop i s)) ≡ v = length-take-le v (drop i s) (rw length-drop (omega arith)) in
     rw (take-add v w (drop i s), number-append, n, drop-drop)
+
+-- bytes whose number is zero are zero
+pub number-zero : (l : List ℕ) → number l ≡ 0 → l ≡ replicate (length l) 0
+unfolding number
+number-zero [] h = refl
+number-zero (x ∷ l) h =
+    let z : x ≡ 0 = omega arith in
+    let n : l ≡ replicate (length l) 0 = number-zero l (omega arith) in
+    λ i. z i ∷ n i
 
 -- the bytes of a number: how many, each one a byte
 pub length-bytes : (w x : ℕ) → length (bytes w x) ≡ w

@@ -2,6 +2,7 @@
 use mathlib.Core.Path.{_≡_}
 use native.Mathlib.Nat.{add-sub-cancel-left}
 use borrow.Author.Needs.{needs}
+use Rattle.layout.proofs.RecordLaws.{sound-record}
 use Rattle.engine.specs.Serve.{recordIn, entryIn}
 use Rattle.engine.proofs.ServeLaws.{call-is}
 use Rattle.engine.proofs.serve.call_at.Statement.{statement}
@@ -52,7 +53,7 @@ call-requires c κs =
     let pre = c .before .before .before .before .before .before .before .pre in
     let r : c .before .before .before .record-of .result ≡ recordIn (a .state .now) (a .i) = rw add-sub-cancel-left at (c .before .before .before .record-of .ensures) in
     let e : c .before .entry-of .result ≡ entryIn (a .frame .now) (a .i) = rw add-sub-cancel-left at (c .before .entry-of .ensures) in
-    (rw e (pre .pieces), rw r (pre .isSound))
+    (rw e (pre .pieces), rw r (sound-record _ _ (pre .isSound)))
 
 returns : tie.Need-returns
 returns c =

@@ -102,6 +102,9 @@ returns-5 c =
 mul-if4 : tie.Need-mul-if4
 mul-if4 c = omega (arith, c .before .before .before .before .before .before .before .before .before .before .before .before .before .before .pre .chain .few)
 
+mul-if4-2 : tie.Need-mul-if4-2
+mul-if4-2 c = omega (arith, c .before .before .before .before .before .before .before .before .before .before .before .before .before .before .pre .chain .few)
+
 returns-6 : tie.Need-returns-6
 unfolding verifyOf
 returns-6 c =
@@ -153,5 +156,6 @@ verify-spec =
     mul-if3
     returns-5
     mul-if4
+    mul-if4-2
     returns-6
     returns-7)

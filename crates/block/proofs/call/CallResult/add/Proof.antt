@@ -17,11 +17,11 @@ returns-3 : tie.Need-returns-3
 unfolding withPass
 returns-3 c = rw (ne-eqb _ _ (c .before .before .if1 .left), ne-eqb _ _ (c .if2 .left))
 
-add-self : tie.Need-add-self
-add-self c = omega arith
+add-used : tie.Need-add-used
+add-used c = omega arith
 
-add-self-2 : tie.Need-add-self-2
-add-self-2 c = omega arith
+add-passes : tie.Need-add-passes
+add-passes c = omega arith
 
 pub add-spec : {M : Type 1} → statement M
-add-spec = tie.close (tie.spec add-self add-self-2 returns returns-2 returns-3)
+add-spec = tie.close (tie.spec add-used add-passes returns returns-2 returns-3)
