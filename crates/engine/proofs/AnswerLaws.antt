@@ -58,6 +58,22 @@ verified blocks state frame report journal verdict e p =
     let v = verify-passes blocks state frame report journal in
     (v .stateFits (sym e ∙ p), v .givenFits (sym e ∙ p))
 
+-- checks 20 to 41 and the work, over the blocks of a table; `verdict` is what the checks found
+module _ (blocks : List Block) (state frame report journal : List ℕ) (verdict : Verdict) (v : verdict ≡ verifyOf blocks state frame report journal) where
+  abbrev Leaves : Scanned → List ℕ → List ℕ → List ℕ → Type 0
+  Leaves answer s r j = _≡_ {A = ScanResult} (record { answer = answer; state = s; report = r; journal = j }) (scanBlocks blocks state frame report journal)
+
+  pub blocks-refused : (number : ℕ) (place : Place) (answer : Scanned) → verdict ≡ Failed number place → answer ≡ ScanRefused number place → Leaves answer state report journal
+  unfolding scanBlocks
+  blocks-refused number place answer e h = rw (sym v ∙ e) (λ i. record { answer = h i; state = state; report = report; journal = journal })
+
+  pub blocks-served : (n : ℕ) → length blocks ≡ n → (s r j : List ℕ) (count : ℕ) → verdict ≡ Passed
+      → _≡_ {A = Buffers} (record { state = s; report = r; journal = j; events = count })
+      (servedTo blocks frame n (record { state = state; report = report; journal = journal; events = 0 }))
+      → Leaves (Events count) s r j
+  unfolding scanBlocks
+  blocks-served n all s r j count e h = rw (sym v ∙ e, all) (ap scanned h)
+
 module _ (image state frame report journal : List ℕ) where
   abbrev result : ScanResult
   result = scanOf image state frame report journal
@@ -70,17 +86,9 @@ module _ (image state frame report journal : List ℕ) where
   unfolding scanOf
   scan-table table number place answer checked e h = rw (sym checked ∙ e) (h, (refl, (refl, refl)))
 
-  -- an accepted table, and the verdict of the checks below it
-  module _ (n : ℕ) (ok : checkOf image ≡ TableBlocks n) (verdict : Verdict) (v : verdict ≡ verifyOf (blocksOf image) state frame report journal) where
-    pub scan-refused : (number : ℕ) (place : Place) (answer : Scanned) → verdict ≡ Failed number place → answer ≡ ScanRefused number place → Scans answer state report journal
-    unfolding scanOf scanBlocks
-    scan-refused number place answer e h = rw (ok, sym v ∙ e) (h, (refl, (refl, refl)))
-
-    pub scan-done : (s r j : List ℕ) (count : ℕ) → verdict ≡ Passed
-        → _≡_ {A = Buffers} (record { state = s; report = r; journal = j; events = count })
-        (servedTo (blocksOf image) frame n (record { state = state; report = report; journal = journal; events = 0 }))
-        → Scans (Events count) s r j
-    unfolding scanOf scanBlocks
-    scan-done s r j count e h =
-        rw (ok, sym v ∙ e, accepted-blocks image n ok)
-        (ap (λ (b : Buffers). scanned b .answer) h, (ap (λ (b : Buffers). b .state) h, (ap (λ (b : Buffers). b .report) h, ap (λ (b : Buffers). b .journal) h)))
+  pub scan-accepted-table : (n : ℕ) → checkOf image ≡ TableBlocks n → (answer : Scanned) (s r j : List ℕ)
+      → _≡_ {A = ScanResult} (record { answer = answer; state = s; report = r; journal = j }) (scanBlocks (blocksOf image) state frame report journal)
+      → Scans answer s r j
+  unfolding scanOf
+  scan-accepted-table n ok answer s r j h =
+      rw ok (ap (λ (x : ScanResult). x .answer) h, (ap (λ (x : ScanResult). x .state) h, (ap (λ (x : ScanResult). x .report) h, ap (λ (x : ScanResult). x .journal) h)))

@@ -11,7 +11,7 @@ ghost use mathlib.Core.Path.{_≡_};
 ghost use Rattle.table.specs.Check.{Accepted};
 ghost use Rattle.table.specs.Blocks.{blocksOf};
 ghost use Rattle.engine.specs.Serve.{servedTo};
-ghost use Rattle.engine.specs.Scan.{scanOf};
+ghost use Rattle.engine.specs.Scan.{scanBlocks, scanOf};
 ghost use Rattle.engine.specs.ScanAccepted.{StateFits, GivenFits};
 
 // Every block, called once, in chain order; the number of events.
@@ -62,6 +62,47 @@ fn check_refusal(verdict: Verdict) -> Scanned
     }
 }
 
+// Checks 20 to 41 over an accepted table's blocks, then the work; a failed check leaves every lent buffer untouched.
+fn scan_blocks(
+    image: &[u8],
+    slots: &[u8; 64],
+    positions: &[u8; 65],
+    count: usize,
+    state: &mut [u8],
+    frame: &[u8],
+    report: &mut [u8],
+    journal: &mut [u8],
+) -> Scanned
+    requires { ⌜ Accepted (now image) count (now slots) (now positions) ⌝ }
+    ensures { λ r. ⌜ record { answer = r; state = now (state .exit); report = now (report .exit); journal = now (journal .exit) } ≡ scanBlocks (blocksOf (now (image .entry))) (now (state .entry)) (now (frame .entry)) (now (report .entry)) (now (journal .entry)) ⌝ }
+{
+    let verdict = verify(
+        image,
+        slots,
+        positions,
+        count,
+        &state[..],
+        frame,
+        &report[..],
+        &journal[..],
+    );
+    let Verdict::Passed = verdict else {
+        return check_refusal(verdict);
+    };
+    let events = serve_all(
+        image,
+        slots,
+        positions,
+        count,
+        state,
+        frame,
+        report,
+        journal,
+    );
+    Scanned::Events(events)
+}
+
+// One scan over the lent buffers: the number of events, or the first check that fails.
 pub fn scan(
     image: &[u8],
     state: &mut [u8],
@@ -83,20 +124,7 @@ pub fn scan(
     let slots = chain.slots;
     let positions = chain.positions;
     let count = chain.count;
-    let verdict = verify(
-        image,
-        &slots,
-        &positions,
-        count,
-        &state[..],
-        frame,
-        &report[..],
-        &journal[..],
-    );
-    let Verdict::Passed = verdict else {
-        return check_refusal(verdict);
-    };
-    Scanned::Events(serve_all(
+    scan_blocks(
         image,
         &slots,
         &positions,
@@ -105,5 +133,5 @@ pub fn scan(
         frame,
         report,
         journal,
-    ))
+    )
 }
