@@ -14,7 +14,6 @@ use Rattle.table.specs.declared.check.Checked.the-variants.{Blocks}
 use Rattle.table.specs.declared.blocks.Wire.{Wire}
 use Rattle.table.proofs.AcceptedLaws.{accepted-blocks, accepted-few, accepted-start, accepted-abort}
 use Rattle.layout.specs.Buffer.{recordLength, entryLength, reportLength, eventLength, part, put}
-use Rattle.layout.specs.RecordLayout.{decodeRecord}
 use Rattle.layout.specs.ReportLayout.{encodeReport}
 use Rattle.layout.specs.EventLayout.{encodeEvents}
 use Rattle.layout.proofs.BufferLaws.{put-length}
@@ -29,7 +28,7 @@ use Rattle.block.specs.declared.entry.Entry.{Entry}
 use Rattle.block.proofs.Tests.{each}
 use Rattle.block.proofs.CallLaws.{call-whole}
 use Rattle.engine.specs.Inputs.{inputsOf}
-use Rattle.engine.specs.Serve.{Buffers, recordIn, entryIn, callIn, served, servedTo, untagged}
+use Rattle.engine.specs.Serve.{Buffers, entryIn, callIn, served, servedTo, untagged}
 use Rattle.engine.specs.Callable.{Callable}
 use Rattle.engine.specs.ScanAccepted.{StateFits, GivenFits}
 use Rattle.engine.proofs.GridLaws.{grid-length}

@@ -6,12 +6,11 @@ ghost use mathlib.Core.Path.{_≡_};
 ghost use mathlib.Core.Bool.{_&&_};
 ghost use mathlib.Core.List.{_++_};
 ghost use Prim.Native.Nat.{_+_, _≤_};
-ghost use lib.Dec.{eqb, ltb, leb};
+ghost use lib.Dec.{eqb};
 ghost use lib.ListN.{length, take, drop};
-ghost use Rattle.words.specs.Word.{numberAt};
-ghost use Rattle.block.specs.Entry.{codeFits, pieceForm, pieceFits};
+ghost use Rattle.block.specs.Entry.{pieceForm, pieceFits};
 ghost use Rattle.layout.specs.Buffer.{byteAt, put};
-ghost use Rattle.layout.specs.EntryLayout.{inputsByte, decodeInputs, encodePiece, decodePiece, encodePieces, encodeEntry, decodeEntry, entryBytes};
+ghost use Rattle.layout.specs.EntryLayout.{inputsByte, decodeInputs, encodePiece, decodePiece, encodePieces, encodeEntry, decodeEntry, headFits, entryBytes};
 
 // Bytes of a frame entry, and of each of its four pieces, which stand after its head.
 pub const ENTRY_BYTES: usize = 56;
@@ -68,7 +67,7 @@ pub fn entry_of(s: &[u8]) -> Entry
 // What stands before the pieces: the unnamed bytes and bits, then the fields.
 fn head_fits(s: &[u8]) -> bool
     requires { ⌜ 56 ≤ length (now s) ⌝ }
-    ensures { λ r. ⌜ r ≡ ltb (byteAt (now (s .entry)) 0) 4 && eqb (byteAt (now (s .entry)) 6) 0 && eqb (byteAt (now (s .entry)) 7) 0 && (leb (byteAt (now (s .entry)) 1) 4 && leb (byteAt (now (s .entry)) 2) 2 && leb (byteAt (now (s .entry)) 3) 1 && codeFits (byteAt (now (s .entry)) 2) (numberAt 2 (now (s .entry)) 4)) ⌝ }
+    ensures { λ r. ⌜ r ≡ headFits (now (s .entry)) ⌝ }
 {
     let form = (s[0] < 4) & (words::u16_at(s, 6) == 0);
     let replies = (s[1] <= 4) & (s[2] <= 2) & (s[3] <= 1);

@@ -1,8 +1,6 @@
 -- `clock::past_limit` meets its contract: what its two callees ensure, put together.
 use borrow.Author.Needs.{needs}
-use mathlib.Core.Path.{_∙_, ap}
-use Prim.Native.Nat.{ℕ}
-use Rattle.clock.specs.Clock.{past, pastLimit}
+use Rattle.clock.specs.Clock.{pastLimit}
 use Rattle.clock.proofs.past_limit.Statement.{statement}
 use Rattle.clock.proofs.past_limit.Tie as tie
 

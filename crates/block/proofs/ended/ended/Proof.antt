@@ -1,5 +1,5 @@
 -- `ended` meets its contract: one return for each case of the rule.
-use mathlib.Core.Bool.{true, false}
+use mathlib.Core.Bool.{false}
 use mathlib.Core.Path.{_∙_, ap}
 use Rattle.block.specs.Pass.{goOn}
 use Rattle.block.specs.Ended.{ended}

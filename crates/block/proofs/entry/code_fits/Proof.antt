@@ -1,5 +1,5 @@
 -- `code_fits` meets its contract: by the reply.
-use mathlib.Core.Bool.{Bool, true, false, _&&_, _||_}
+use mathlib.Core.Bool.{Bool, true, false, _||_}
 use mathlib.Core.Path.{_≡_, refl}
 use borrow.Author.Tests.{eq-eqb, ne-eqb}
 use Rattle.block.proofs.entry.code_fits.Statement.{statement}

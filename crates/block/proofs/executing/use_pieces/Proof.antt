@@ -1,6 +1,6 @@
 -- `use_pieces` meets its contract: what is left of the pieces, used from the present work, gives what all of them give from the first.
 use borrow.Author.Needs.{needs}
-use Prim.Native.Nat.{_+_, _≤_, _<_, _-_}
+use Prim.Native.Nat.{_≤_, _-_}
 use mathlib.Core.Path.{_≡_, _∙_, ap, refl, sym}
 use native.Mathlib.Omega.{arith}
 use lib.ListN.{take, drop, length}

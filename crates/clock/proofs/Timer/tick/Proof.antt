@@ -1,7 +1,7 @@
 -- `Timer::tick` meets its contract: the sum that is held at 2 ^ 32, by arithmetic.
 use borrow.Author.Needs.{needs}
 use native.Mathlib.Omega.{arith}
-use mathlib.Core.Path.{_≡_, ap}
+use mathlib.Core.Path.{_≡_}
 use Prim.Native.Nat.{ℕ, _+_, min}
 use Rattle.clock.specs.Clock.{since, tick}
 use Rattle.clock.specs.declared.Timer.{Timer}

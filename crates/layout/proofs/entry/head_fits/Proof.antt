@@ -1,5 +1,11 @@
 -- `entry::head_fits` meets its contract: two unnamed bytes as one number, the rest as defined.
+use Prim.Native.Nat.{ℕ}
+use mathlib.Core.Bool.{_&&_}
+use mathlib.Core.Path.{ap, _∙_}
 use native.Mathlib.Omega.{arith}
+use lib.Dec.{eqb, ltb, leb}
+use Rattle.block.specs.Entry.{codeFits}
+use Rattle.layout.specs.Buffer.{byteAt}
 use Rattle.layout.proofs.CheckLaws.{head-form}
 use borrow.Author.Needs.{needs}
 use Rattle.layout.proofs.entry.head_fits.Statement.{statement}
@@ -32,7 +38,9 @@ code-fits-requires c κs = search needs
 returns : tie.Need-returns
 returns c =
     let s = c .before .before .before .before .before .before .before .before .before .args .s .now in
-    rw (c .before .before .before .before .before .before .u16-at .ensures, head-form s (omega arith), c .code-fits .ensures, c .before .u16-at2 .ensures)
+    let unnamed = ap (λ (n : ℕ). ltb (byteAt s 0) 4 && eqb n 0) (c .before .before .before .before .before .before .u16-at .ensures) ∙ head-form s (omega arith) in
+    let code = c .code-fits .ensures ∙ ap (codeFits (byteAt s 2)) (c .before .u16-at2 .ensures) in
+    λ i. unnamed i && (leb (byteAt s 1) 4 && leb (byteAt s 2) 2 && leb (byteAt s 3) 1 && code i)
 
 pub head-fits-spec : {M : Type 1} → statement M
 head-fits-spec =

@@ -2,10 +2,10 @@
 use mathlib.Core.Path.{_≡_}
 use mathlib.Core.Bool.{true, false, _&&_}
 use native.Mathlib.Omega.{arith}
-use lib.ListN.{getD}
+use lib.ListN.{length, getD}
 use borrow.Author.Needs.{needs}
 use borrow.Author.Tests.{le-leb, lt-leb, eq-eqb, ne-eqb, not-true, not-false}
-use lib.Dec.{eqb}
+use lib.Dec.{eqb, leb}
 use Rattle.kind.specs.Kind.{within}
 use Rattle.table.specs.Image.{version, slotCount}
 use Rattle.table.specs.Header.{headerCheck}
@@ -14,7 +14,10 @@ use Rattle.table.proofs.header.check_header.Tie as tie
 
 returns : tie.Need-returns
 unfolding headerCheck
-returns c = simp (lt-leb _ _ (c .if1 .taken))
+returns c =
+    let s = c .before .args .image .now in
+    let short : leb 4 (length s) ≡ false = lt-leb 4 (length s) (c .if1 .taken) in
+    simp short
 
 shared-slice-read-if2 : tie.Need-shared-slice-read-if2
 shared-slice-read-if2 c = search needs
