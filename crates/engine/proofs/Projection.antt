@@ -4,6 +4,7 @@ use native.Mathlib.Decide.{ℕ-discrete, decLt}
 use native.Mathlib.Omega.{arith}
 use mathlib.Core.Bool.{Bool, true, false, cond}
 use mathlib.Core.List.{List, [], _++_, append-nil}
+use mathlib.Core.Logic.{_≢_}
 use mathlib.Core.Path.{_≡_, refl, ap, sym, _∙_, subst}
 use lib.Dec.{ltb}
 use lib.ListN.{length}
@@ -152,19 +153,23 @@ module _ (blocks : List Block) (frame state report journal : List ℕ) where
         rw (count-next i, journal-next i)
         (decode-after (buffersAt i .events) (suc i) (outcomeAt i .events) (buffersAt i .journal) (journal-room i) (outcome-fits i l .events))
 
-    -- so those with a block's position are those of its call
-    pub events-none : (k n : ℕ) → n ≤ length blocks → n ≤ k → eventsAt (suc k) (eventsTo n) ≡ []
+    -- so none has a position that is none of theirs
+    pub events-none : (p n : ℕ) → n ≤ length blocks → ((k : ℕ) → k < n → p ≢ suc k) → eventsAt p (eventsTo n) ≡ []
     unfolding servedTo decodeEvents eventsAt
-    events-none k zero h l = refl
-    events-none k (suc n) h l =
-        rw (events-next n h, at-append, events-none k n (omega arith) (omega arith), at-other (suc k) (suc n) (outcomeAt n .events) (omega arith))
+    events-none p zero h o = refl
+    events-none p (suc n) h o =
+        let before : eventsAt p (eventsTo n) ≡ [] = events-none p n (omega arith) (λ k l. o k (omega arith)) in
+        rw (events-next n h, at-append, before, at-other p (suc n) (outcomeAt n .events) (λ e. o n (omega arith) (sym e)))
 
+    -- and those with a block's position are those of its call
     events-one : (k n : ℕ) → n ≤ length blocks → k < n → eventsAt (suc k) (eventsTo n) ≡ outcomeAt k .events
     events-one k zero h l = absurd (omega arith)
     events-one k (suc n) h l = go (ℕ-discrete k n) (λ m. events-one k n (omega arith) m)
       where
         go : Dec (k ≡ n) → (k < n → eventsAt (suc k) (eventsTo n) ≡ outcomeAt k .events) → eventsAt (suc k) (eventsTo (suc n)) ≡ outcomeAt k .events
-        go (yes e) ih = rw (e, events-next n h, at-append, events-none n n (omega arith) (omega arith), at-own)
+        go (yes e) ih =
+            let before : eventsAt (suc n) (eventsTo n) ≡ [] = events-none (suc n) n (omega arith) (λ j l q. omega arith) in
+            rw (e, events-next n h, at-append, before, at-own)
         go (no m) ih = rw (events-next n h, at-append, at-other (suc k) (suc n) (outcomeAt n .events) (λ e. m (omega arith)), append-nil) (ih (omega arith))
 
     record-is : (k : ℕ) → k < length blocks → recordIn (stateTo (length blocks)) k ≡ outcomeAt k .next

@@ -1,9 +1,10 @@
 -- The run promise, demand 3: every block's history in a list of scans, read off the bytes, is one that the machine made, so that the promise of one
 -- block holds of it.
-use Prim.Native.Nat.{ℕ, suc, _*_, _≤_, _<_}
+use Prim.Native.Nat.{ℕ, suc, _*_, _<_}
 use native.Mathlib.Omega.{arith}
 use mathlib.Core.Bool.{true}
 use mathlib.Core.List.{List, []}
+use mathlib.Core.Logic.{_≢_}
 use mathlib.Core.Path.{_≡_, refl, ap, sym, _∙_, subst}
 use lib.ListN.{length, replicate, length-replicate}
 use Rattle.table.specs.Blocks.{blocksOf, blockAt}
@@ -76,13 +77,13 @@ module _ (image buffer : List ℕ) (n : ℕ) (m : FreshMade image buffer n) wher
       (sound (blockAt (blocksOf image) k .kind) (recordIn (stateAfter image buffer h) k))
       (held x .form k l) (rw (s .record-is) (p .sound))
 
-  none-past : (k : ℕ) → length (blocksOf image) ≤ k → {h : Scans} → Framed h → eventsAt (suc k) (journalOf image buffer h) ≡ []
+  none-other : (p : ℕ) → ((k : ℕ) → k < length (blocksOf image) → p ≢ suc k) → {h : Scans} → Framed h → eventsAt p (journalOf image buffer h) ≡ []
   unfolding journalOf eventsAt
-  none-past k l noFrame = refl
-  none-past k l (andFrame {h = h} {g = g} x b) =
+  none-other p o noFrame = refl
+  none-other p o (andFrame {h = h} {g = g} x b) =
       let state = stateAfter image buffer h in
-      subst (λ (r : ScanResult). eventsAt (suc k) (withEvents image buffer (journalOf image buffer h) (r .answer) r) ≡ []) (sym (result-is h g))
-      (none-by image buffer state g b (held x) k l (scanVerdict image state g) refl (journalOf image buffer h) (none-past k l x))
+      subst (λ (r : ScanResult). eventsAt p (withEvents image buffer (journalOf image buffer h) (r .answer) r) ≡ []) (sym (result-is h g))
+      (none-by image buffer state g b (held x) p o (scanVerdict image state g) refl (journalOf image buffer h) (none-other p o x))
 
 -- of one block
 block-run : (image buffer : List ℕ) (n : ℕ) → FreshMade image buffer n → {scans : Scans} → Framed scans
@@ -105,7 +106,7 @@ block-run image buffer n m {scans} x k l =
 pub run-invariant : RunInvariantHolds
 run-invariant image buffer n e scans x =
     let m = fresh-made image buffer n e in
-    record { blocks = block-run image buffer n m x; positions = λ k l. none-past image buffer n m k l x }
+    record { blocks = block-run image buffer n m x; positions = λ p o. none-other image buffer n m p o x }
 
 -- the state fits after any list of scans, so that only what it is given can turn the next one back
 pub state-fits : StateFitsAfter

@@ -1,9 +1,10 @@
 -- One scan over an accepted table, accepted or refused: it keeps the state buffer in form, and of each block it keeps that the history read off the
 -- bytes is one that the machine made. For the list of scans.
-use Prim.Native.Nat.{ℕ, suc, _*_, _≤_, _<_}
+use Prim.Native.Nat.{ℕ, suc, _*_, _<_}
 use native.Mathlib.Omega.{arith}
 use mathlib.Core.Bool.{true}
 use mathlib.Core.List.{List, []}
+use mathlib.Core.Logic.{_≢_}
 use mathlib.Core.Path.{_≡_, refl, ap, sym, _∙_, subst}
 use lib.ListN.{length}
 use Rattle.table.specs.Blocks.{blocksOf, blockAt}
@@ -89,11 +90,11 @@ module _ (image buffer state : List ℕ) (g : Given) (framed : Bytes (g .frame))
         entries = rw (at-append, x .entries);
       }
 
-  -- past the last block no event has its position
-  pub none-by : (k : ℕ) → length (blocksOf image) ≤ k → (v : Verdict) → scanVerdict image state g ≡ v → (ps : List Posted) → eventsAt (suc k) ps ≡ []
-      → eventsAt (suc k) (withEvents image buffer ps (resultBy v image state g .answer) (resultBy v image state g)) ≡ []
-  none-by k l (Failed number place) e ps x = x
-  none-by k l Passed e ps x =
+  -- no event has a position that is no block's
+  pub none-by : (p : ℕ) → ((k : ℕ) → k < length (blocksOf image) → p ≢ suc k) → (v : Verdict) → scanVerdict image state g ≡ v → (ps : List Posted) → eventsAt p ps ≡ []
+      → eventsAt p (withEvents image buffer ps (resultBy v image state g .answer) (resultBy v image state g)) ≡ []
+  none-by p o (Failed number place) e ps x = x
+  none-by p o Passed e ps x =
       let r = given e .reportSized in
       let all = length (blocksOf image) in
-      rw (at-append, x) (events-none (blocksOf image) (g .frame) state (g .report) (g .journal) (s .sized) r framed (s .fit) k all (omega arith) l)
+      rw (at-append, x) (events-none (blocksOf image) (g .frame) state (g .report) (g .journal) (s .sized) r framed (s .fit) p all (omega arith) o)

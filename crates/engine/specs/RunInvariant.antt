@@ -62,8 +62,8 @@ module _ (image buffer : List ℕ) (scans : Scans) (k : ℕ) where
 -- the claim: for every table and buffer of which fresh made a state, and every list of scans over them, it holds of each block
 pub record RunInvariant (image buffer : List ℕ) (scans : Scans) : Type 0 where
   pub blocks : (k : ℕ) → k < length (blocksOf image) → BlockRun image buffer scans k
-  -- every event of the journal is an entry of one of the blocks
-  pub positions : (k : ℕ) → length (blocksOf image) ≤ k → eventsAt (suc k) (journalOf image buffer scans) ≡ []
+  -- "A block's entries are the events there with its position.", and there are no others: no event has a position p that is no block's
+  pub positions : (p : ℕ) → ((k : ℕ) → k < length (blocksOf image) → p ≢ suc k) → eventsAt p (journalOf image buffer scans) ≡ []
 
 -- theorem run-invariant, proofs/RunInvariant.antt
 abbrev pub RunInvariantHolds : Type 0
