@@ -16,18 +16,20 @@ use Rattle.layout.proofs.Fits.{RecordFits}
 use Rattle.layout.specs.ReportLayout.{encodeReport, reportedPieces, reportedPasses}
 use Rattle.layout.specs.EventLayout.{Posted, encodeEvents, decodeEvents, eventsAt}
 use Rattle.layout.proofs.BufferLaws.{part-bytes}
-use Rattle.layout.proofs.RecordLaws.{encode-length, decode-encode, encode-form}
+use Rattle.layout.proofs.RecordLaws.{encode-length, decode-encode, encode-form, sound-record}
 use Rattle.layout.proofs.EntryLaws.{decode-fits}
 use Rattle.layout.proofs.ReportLaws.{report-length, reported-pieces, reported-passes}
 use Rattle.layout.proofs.EventLaws.{posted, at-append, at-own, at-other}
-use Rattle.block.specs.Call.{Outcome, callOf}
+use Rattle.block.specs.Call.{Outcome, callOf, Whole}
 use Rattle.block.specs.History.{Seen}
 use Rattle.block.specs.BlockInvariant.{seenCall}
 use Rattle.block.specs.declared.entry.Inputs.{Inputs}
+use Rattle.block.proofs.CallLaws.{call-whole}
 use Rattle.engine.specs.Inputs.{flagsIn, inputsOf}
 use Rattle.engine.specs.Serve.{Buffers, recordIn, entryIn, callIn, served, servedTo}
 use Rattle.words.specs.Word.{Bytes}
 use Rattle.engine.specs.Scans.{flagsSeen}
+use Rattle.engine.specs.ScanAccepted.{StateFits}
 use Rattle.engine.proofs.FitsLaws.{OutcomeFits, call-fits}
 use Rattle.engine.proofs.GridLaws.{grid-length, grid-later, grid-earlier}
 use Rattle.engine.proofs.JournalLaws.{decode-after, room-after}
@@ -100,15 +102,20 @@ module _ (blocks : List Block) (frame state report journal : List ℕ) where
     unfolding servedTo
     state-earlier n j h l = grid-earlier recordLength recordBytes stateTo (λ i. encode-length (outcomeAt i .next)) state-next n j (omega arith) l
 
+  module _ (s : StateFits blocks state) where
+    -- each call is from the record of the state as it was given, which is sound
+    pub outcome-whole : (i : ℕ) → i < length blocks → Whole (blockAt blocks i .kind) (inputsAt i) (entryIn frame i) (recordIn state i) (outcomeAt i)
+    unfolding callIn
+    outcome-whole i l =
+        let kind = blockAt blocks i .kind in
+        let given : recordIn (stateTo i) i ≡ recordIn state i = ap decodeRecord (state-later (s .sized) i i (omega arith) (omega arith)) in
+        rw given (call-whole kind (inputsAt i) (entryIn frame i) (recordIn state i) (sound-record kind (part recordLength i state) (s .sound i l)))
+
     -- as many events as the calls have, at most two each
-    pub events-few
-        : ((i : ℕ) → i < length blocks → length (callOf (blockAt blocks i .kind) (inputsAt i) (entryIn frame i) (recordIn state i) .events) ≤ 2)
-        → (n : ℕ) → n ≤ length blocks → buffersAt n .events ≤ 2 * n
-    unfolding servedTo served callIn
-    events-few two zero l = omega arith
-    events-few two (suc i) l =
-        let e = ap decodeRecord (state-later i i (omega arith) (omega arith)) in
-        omega (arith, events-few two i (omega arith), rw (← e) at (two i l))
+    pub events-few : (n : ℕ) → n ≤ length blocks → buffersAt n .events ≤ 2 * n
+    unfolding servedTo
+    events-few zero l = omega arith
+    events-few (suc i) l = rw (count-next i) (omega (arith, events-few i (omega arith), outcome-whole i l .events))
 
   -- the report and the frame of an accepted scan too; each record fits its bytes
   module _ (sized : length state ≡ recordLength * length blocks) (reported : length report ≡ reportLength * length blocks) (framed : Bytes frame)

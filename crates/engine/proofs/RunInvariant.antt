@@ -21,8 +21,7 @@ use Rattle.engine.specs.Serve.{recordIn}
 use Rattle.engine.specs.Fresh.{freshOf}
 use Rattle.engine.specs.Scan.{ScanResult}
 use Rattle.engine.specs.Scans.{Scans, Given, Framed, noFrame, andFrame, stateAfter, resultOf, withEvents, journalOf, withSeen, historyOf}
-use Rattle.engine.specs.ScanAccepted.{StateFitsAfter, NextIsAccepted}
-use Rattle.engine.specs.RunInvariant.{BlockRun, RunInvariantHolds}
+use Rattle.engine.specs.RunInvariant.{BlockRun, RunInvariantHolds, StateFitsAfter, NextIsAccepted}
 use Rattle.engine.proofs.FitsLaws.{fresh-fits}
 use Rattle.engine.proofs.FreshLaws.{FreshMade, fresh-made, zeros-fresh, zeros-form}
 use Rattle.engine.proofs.ScanAccepted.{scan-accepted}

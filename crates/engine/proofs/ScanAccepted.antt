@@ -1,6 +1,7 @@
 -- Which scans are accepted: checks 20 to 41 pass exactly for a state, a frame, a report and a journal that fit, and then a scan over an accepted
--- table answers with its events, at most two a block. For the run promise, and so that it is about scans that are accepted.
-use Prim.Native.Nat.{ℕ, _*_, _≤_, _<_}
+-- table answers with its events, at most two a block, and each of its calls is whole. For the run promise, and so that it is about scans that are
+-- accepted.
+use Prim.Native.Nat.{ℕ, _*_, _<_}
 use native.Mathlib.Nat.{zero-add}
 use native.Mathlib.Omega.{arith}
 use mathlib.Core.Bool.{true}
@@ -22,15 +23,13 @@ use Rattle.table.proofs.Logic.{require-this, require-below, group-passes, rest-
 use Rattle.layout.specs.Buffer.{recordLength, entryLength, reportLength, eventLength, part}
 use Rattle.layout.specs.RecordLayout.{soundBytes}
 use Rattle.layout.specs.EntryLayout.{entryBytes}
-use Rattle.layout.proofs.RecordLaws.{sound-record}
-use Rattle.block.proofs.CallLaws.{call-whole}
 use Rattle.engine.specs.Verify.{stateSound, frameForm, frameLength, reportLengthIs, journalLength, verifyOf}
 use Rattle.engine.specs.Scan.{scanBlocks, scanOf}
-use Rattle.engine.specs.ScanAccepted.{StateFits, GivenFits, VerifyPassesExactly, ScanIsAccepted, EventsAreFew}
+use Rattle.engine.specs.ScanAccepted.{StateFits, GivenFits, VerifyPassesExactly, ScanIsAccepted, EventsAreFew, CallsAreWhole}
 use Rattle.engine.specs.declared.answer.Scanned.{Scanned}
 use Rattle.engine.specs.declared.answer.Scanned.the-variants.{Events, Refused}
 use Rattle.engine.proofs.VerifyLaws.{each-passed, each-passes, stateTest, stateCheck, state-each, frameTest, frameCheck, frame-each}
-use Rattle.engine.proofs.Projection.{buffersAt, events-few as two-each}
+use Rattle.engine.proofs.Projection.{buffersAt, outcome-whole, events-few as two-each}
 
 -- a check of a length
 length-is : (m n number : ℕ) (below : Verdict) → require (eqb m n) number Header below ≡ Passed → m ≡ n
@@ -133,27 +132,29 @@ refused-not a m number place e f = let z : _≡_ {A = ℕ} 0 1 = cc in absurd (o
 events-same : (a : Scanned) (m n : ℕ) → a ≡ Events m → a ≡ Events n → m ≡ n
 events-same a m n e f = cc
 
-pub events-few : EventsAreFew
+-- an accepted scan is over an accepted table, and passed checks 20 to 41
+accepted-by : (image state frame report journal : List ℕ) (m : ℕ) → scanOf image state frame report journal .answer ≡ Events m
+    → ((n : ℕ) × (checkOf image ≡ TableBlocks n)) × (verifyOf (blocksOf image) state frame report journal ≡ Passed)
 unfolding scanOf scanBlocks
-events-few image state frame report journal m = by (checkOf image) refl (verifyOf (blocksOf image) state frame report journal) refl
+accepted-by image state frame report journal m = by (checkOf image) refl (verifyOf (blocksOf image) state frame report journal) refl
   where
-    count : ℕ
-    count = buffersAt (blocksOf image) frame state report journal (length (blocksOf image)) .events
-
-    -- each call is from a record of the state as it was given, which is sound
-    few : verifyOf (blocksOf image) state frame report journal ≡ Passed → count ≤ 2 * length (blocksOf image)
-    few v =
-        let s = state-fits (blocksOf image) state frame report journal v in
-        two-each (blocksOf image) frame state report journal (s .sized)
-        (λ i l.
-        let kind = blockAt (blocksOf image) i .kind in
-        call-whole kind _ _ _ (sound-record kind (part recordLength i state) (s .sound i l)) .events)
-        (length (blocksOf image)) (omega arith)
-
     by : (c : Checked) → checkOf image ≡ c → (v : Verdict) → verifyOf (blocksOf image) state frame report journal ≡ v
-        → scanOf image state frame report journal .answer ≡ Events m → m ≤ 2 * length (blocksOf image)
-    by (TableBlocks n) c Passed v a =
-        let e : count ≡ m = events-same (Events count) count m refl (rw (c, v) at a) in
-        omega (arith, few v)
+        → scanOf image state frame report journal .answer ≡ Events m
+        → ((n : ℕ) × (checkOf image ≡ TableBlocks n)) × (verifyOf (blocksOf image) state frame report journal ≡ Passed)
+    by (TableBlocks n) c Passed v a = ((n, c), v)
     by (TableBlocks n) c (Failed number place) v a = refused-not (Refused number place) m number place refl (rw (c, v) at a)
     by (TableRefused number place) c w v a = refused-not (Refused number place) m number place refl (rw c at a)
+
+pub events-few : EventsAreFew
+unfolding scanOf scanBlocks
+events-few image state frame report journal m a =
+    let p = accepted-by image state frame report journal m a in
+    let count = buffersAt (blocksOf image) frame state report journal (length (blocksOf image)) .events in
+    let e : count ≡ m = events-same (Events count) count m refl (rw (p .0 .1, p .1) at a) in
+    let s = state-fits (blocksOf image) state frame report journal (p .1) in
+    omega (arith, two-each (blocksOf image) frame state report journal s (length (blocksOf image)) (omega arith))
+
+pub calls-are-whole : CallsAreWhole
+calls-are-whole image state frame report journal m a =
+    outcome-whole (blocksOf image) frame state report journal
+    (state-fits (blocksOf image) state frame report journal (accepted-by image state frame report journal m a .1))

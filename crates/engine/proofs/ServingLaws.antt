@@ -17,7 +17,6 @@ use Rattle.layout.specs.Buffer.{recordLength, entryLength, reportLength, eventL
 use Rattle.layout.specs.ReportLayout.{encodeReport}
 use Rattle.layout.specs.EventLayout.{encodeEvents}
 use Rattle.layout.proofs.BufferLaws.{put-length}
-use Rattle.layout.proofs.RecordLaws.{sound-record}
 use Rattle.layout.proofs.EntryLaws.{entry-fits}
 use Rattle.layout.proofs.ReportLaws.{report-length}
 use Rattle.layout.proofs.EventLaws.{events-length}
@@ -26,7 +25,6 @@ use Rattle.block.specs.Call.{Outcome}
 use Rattle.block.specs.Sound.{sound}
 use Rattle.block.specs.declared.entry.Entry.{Entry}
 use Rattle.block.proofs.Tests.{each}
-use Rattle.block.proofs.CallLaws.{call-whole}
 use Rattle.engine.specs.Inputs.{inputsOf}
 use Rattle.engine.specs.Serve.{Buffers, entryIn, callIn, served, servedTo, untagged}
 use Rattle.engine.specs.Callable.{Callable}
@@ -50,9 +48,7 @@ module _ (blocks : List Block) (frame state report journal : List ℕ) (s : Stat
   outcome i = outcomeAt blocks frame state report journal i
 
   few : (n : ℕ) → n ≤ length blocks → after n .events ≤ 2 * n
-  few n l =
-      events-few blocks frame state report journal (s .sized)
-      (λ i h. call-whole (blockAt blocks i .kind) _ _ _ (sound-record (blockAt blocks i .kind) (part recordLength i state) (s .sound i h)) .events) n l
+  few n l = events-few blocks frame state report journal s n l
 
   report-next : (i : ℕ) → after (suc i) .report ≡ put (reportLength * i) (encodeReport (outcome i)) (after i .report)
   unfolding servedTo served

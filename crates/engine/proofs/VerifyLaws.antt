@@ -66,7 +66,7 @@ module _ (test : ℕ → Block → Bool) (number : ℕ) (check : ℕ → List Bl
   pub left-end : length blocks ≤ i → Passed ≡ check 0 blocks
   left-end l = sym (left ∙ ap (check i) (drop-of-length-le blocks {i = i} l) ∙ each .none i)
 
--- "21 unsound; first position"
+-- 21: "unsound (not for fresh); first position"
 abbrev pub stateTest : List ℕ → ℕ → Block → Bool
 stateTest state i b = soundBytes (b .kind) (part recordLength i state)
 
@@ -77,7 +77,7 @@ pub state-each : (state : List ℕ) → Each (stateTest state) 21 (stateCheck st
 unfolding stateSound
 state-each state = record { none = λ i. refl; one = λ i b bs. refl }
 
--- "31 an entry not as above; first position"
+-- 31: "an entry not as above; first position"
 abbrev pub frameTest : List ℕ → ℕ → Block → Bool
 frameTest frame i b = entryBytes (part entryLength i frame)
 

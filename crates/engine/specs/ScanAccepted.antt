@@ -1,5 +1,5 @@
--- Document 01, "Turned back": "a call that fails none does its work". Which scans are accepted, beside the run promise, which says nothing of a list
--- whose scans are all refused.
+-- Document 01, "Turned back": "a call that fails none does its work". Which scans are accepted, beside the run promise, which would hold of an engine
+-- that refuses every scan; and that each call of an accepted scan is a call by the rules.
 use Prim.Native.Nat.{ℕ, _*_, _≤_, _<_}
 use mathlib.Core.Bool.{true}
 use mathlib.Core.List.{List}
@@ -12,11 +12,12 @@ use Rattle.table.specs.declared.place.Verdict.the-variants.{Passed}
 use Rattle.layout.specs.Buffer.{recordLength, entryLength, reportLength, eventLength, part}
 use Rattle.layout.specs.RecordLayout.{soundBytes}
 use Rattle.layout.specs.EntryLayout.{entryBytes}
+use Rattle.block.specs.Call.{Whole}
+use Rattle.block.specs.declared.entry.Inputs.{Inputs}
 use Rattle.engine.specs.Verify.{verifyOf}
+use Rattle.engine.specs.Inputs.{flagsIn, inputsOf}
+use Rattle.engine.specs.Serve.{recordIn, entryIn, callIn, servedTo}
 use Rattle.engine.specs.Scan.{scanOf}
-use Rattle.engine.specs.Fresh.{freshOf}
-use Rattle.engine.specs.Scans.{Scans, Framed, Given, stateAfter, resultOf}
-use Rattle.engine.specs.declared.answer.Freshened.the-variants.{Blocks}
 use Rattle.engine.specs.declared.answer.Scanned.the-variants.{Events}
 
 -- a state as checks 20 and 21 ask
@@ -53,14 +54,21 @@ abbrev pub EventsAreFew : Type 0
 EventsAreFew =
     (image state frame report journal : List ℕ) (m : ℕ) → scanOf image state frame report journal .answer ≡ Events m → m ≤ 2 * length (blocksOf image)
 
--- theorem state-fits, proofs/RunInvariant.antt: after any list of scans from fresh the state buffer fits
-abbrev pub StateFitsAfter : Type 0
-StateFitsAfter =
-    (image buffer : List ℕ) (n : ℕ) → freshOf image buffer .answer ≡ Blocks n → (scans : Scans) → Framed scans
-    → StateFits (blocksOf image) (stateAfter image buffer scans)
+-- the call of the block at index i
+module _ (image state frame report journal : List ℕ) (i : ℕ) where
+  -- the state as it stands then, after the calls of the blocks before it
+  abbrev pub stateAtCall : List ℕ
+  stateAtCall = servedTo (blocksOf image) frame i (record { state = state; report = report; journal = journal; events = 0 }) .state
 
--- theorem next-accepted, proofs/RunInvariant.antt: so that only what it is given can turn the next scan back
-abbrev pub NextIsAccepted : Type 0
-NextIsAccepted =
-    (image buffer : List ℕ) (n : ℕ) → freshOf image buffer .answer ≡ Blocks n → (scans : Scans) → Framed scans → (g : Given)
-    → GivenFits (blocksOf image) (g .frame) (g .report) (g .journal) → (m : ℕ) × (resultOf image buffer scans g .answer ≡ Events m)
+  -- "A wired input reads that flag as it stands when the block is called"
+  abbrev pub inputsAtCall : Inputs
+  inputsAtCall = inputsOf (blockAt (blocksOf image) i) (flagsIn stateAtCall) (entryIn frame i .inputs)
+
+-- theorem calls-are-whole, proofs/ScanAccepted.antt: "A call repeats passes until one stops": in an accepted scan the call of each block is such
+-- a call, cut short by nothing, from the record that the scan was given, with at most 6 passes and 2 events
+abbrev pub CallsAreWhole : Type 0
+CallsAreWhole =
+    (image state frame report journal : List ℕ) (m : ℕ) → scanOf image state frame report journal .answer ≡ Events m
+    → (i : ℕ) → i < length (blocksOf image)
+    → Whole (blockAt (blocksOf image) i .kind) (inputsAtCall image state frame report journal i) (entryIn frame i) (recordIn state i)
+    (callIn (blockAt (blocksOf image) i) i frame (stateAtCall image state frame report journal i))
