@@ -1,5 +1,6 @@
--- What find's answers mean, for whoever relies on them: a position is found exactly where the table is accepted, the tag is in form and
--- the block there has its eight bytes; there is one such position at most; 51 is answered exactly where no block has the tag.
+-- What find's answers mean, for whoever relies on them: the statements are in specs/Lookup.antt. A position is found exactly where the table is
+-- accepted, the tag is in form and the block there has its eight bytes; there is one such position at most; 51 is answered exactly where no
+-- block has the tag.
 use Prim.Native.Nat.{ℕ, zero, suc, _+_, _-_, _≤_, _<_}
 use mathlib.Core.Path.{_≡_, refl, ap, sym, _∙_, subst}
 use mathlib.Core.List.{List, [], _∷_}
@@ -13,10 +14,9 @@ use Rattle.table.specs.Image.{slotCount, tagOf}
 use Rattle.table.specs.Tag.{tagForm, sameBytes}
 use Rattle.table.specs.Chain.{chainOf}
 use Rattle.table.specs.Check.{checkOf}
-use Rattle.table.specs.Lookup.{tagPosition, foundAt, tagChecks, afterTable, findOf}
+use Rattle.table.specs.Lookup.{tagPosition, foundAt, tagChecks, afterTable, findOf, HasTag, FoundBlock, NoSuchTag, FoundMeans, FoundWhen, FoundOnce, NoTagMeans, NoTagWhen}
 use Rattle.table.specs.Blocks.{blockIn, blocksOf, blockAt}
 use Rattle.table.specs.declared.place.Place.{Place}
-use Rattle.table.specs.declared.place.Place.the-variants.{Header}
 use Rattle.table.specs.declared.check.Checked.{Checked}
 use Rattle.table.specs.declared.check.Checked.the-variants.{Blocks, Refused as CheckRefused}
 use Rattle.table.specs.declared.lookup.Found.{Found}
@@ -26,26 +26,6 @@ use Rattle.table.proofs.TagLaws.{same-equal, same-self}
 use Rattle.table.proofs.AcceptedLaws.{accepted-count, accepted-block, accepted-tags}
 use Rattle.table.proofs.AnswerLaws.{refusal-bounds}
 use Rattle.table.proofs.SearchLaws.{find-at, find-51}
-
--- block p of a table of n blocks, from 1, has the tag
-pub record HasTag (image tag : List ℕ) (n p : ℕ) : Type 0 where
-  pub first : 0 < p
-  pub last : p ≤ n
-  pub same : blockAt (blocksOf image) (p - 1) .tag ≡ tag
-
--- an accepted table, a tag in form, and the position of a block that has it
-pub record FoundBlock (image tag : List ℕ) (p : ℕ) : Type 0 where
-  pub blocks : ℕ
-  pub answer : checkOf image ≡ Blocks blocks
-  pub form : tagForm tag ≡ true
-  pub has : HasTag image tag blocks p
-
--- an accepted table, a tag in form, and no block that has it
-pub record NoSuchTag (image tag : List ℕ) : Type 0 where
-  pub blocks : ℕ
-  pub answer : checkOf image ≡ Blocks blocks
-  pub form : tagForm tag ≡ true
-  pub none : (p : ℕ) → HasTag image tag blocks p → ⊥
 
 module _ (image tag : List ℕ) where
   -- a position that is found is not below the first
@@ -93,7 +73,7 @@ module _ (image tag : List ℕ) where
       let l : p - 1 < n = omega (arith, r .0, accepted-count image n ok) in
       record { first = h; last = omega arith; same = block-tag n (p - 1) ok l ∙ r .1 }
 
-  pub has-once : (n p q : ℕ) → checkOf image ≡ Blocks n → HasTag image tag n p → HasTag image tag n q → p ≡ q
+  has-once : (n p q : ℕ) → checkOf image ≡ Blocks n → HasTag image tag n p → HasTag image tag n q → p ≡ q
   has-once n p q ok a b =
       let i : p - 1 < n = omega (arith, a .first, a .last) in
       let j : q - 1 < n = omega (arith, b .first, b .last) in
@@ -103,30 +83,6 @@ module _ (image tag : List ℕ) where
   none-found n p ok e a =
       let l : p - 1 < n = omega (arith, a .first, a .last) in
       position-none 1 (chainOf image) (omega arith) e (p - 1) (omega (arith, accepted-count image n ok)) (sym (block-tag n (p - 1) ok l) ∙ a .same)
-
-  -- a found tag, and no other
-  pub found-when : (p : ℕ) → FoundBlock image tag p → findOf image tag ≡ At p
-  found-when p f =
-      let n = f .blocks in
-      by-test (eqb (tagPosition image tag 1 (chainOf image)) 0)
-      (λ z. absurd (none-found n p (f .answer) (eqb-true _ _ z) (f .has)))
-      (λ z. let m : (tagPosition image tag 1 (chainOf image) ≡ 0 → ⊥) = eqb-false _ _ z in
-      let h = searched n (tagPosition image tag 1 (chainOf image)) (f .answer) (omega arith) refl in
-      sym (find-at image tag n (tagPosition image tag 1 (chainOf image)) (f .answer) (f .form) refl m)
-      ∙ ap At (has-once n (tagPosition image tag 1 (chainOf image)) p (f .answer) h (f .has)))
-
-  pub found-once : (p q : ℕ) → FoundBlock image tag p → FoundBlock image tag q → p ≡ q
-  found-once p q f g =
-      let e : At p ≡ At q = sym (found-when p f) ∙ found-when q g in
-      cc
-
-  pub no-tag-when : NoSuchTag image tag → findOf image tag ≡ Refused 51 Header
-  no-tag-when f =
-      let n = f .blocks in
-      by-test (eqb (tagPosition image tag 1 (chainOf image)) 0)
-      (λ z. sym (find-51 image tag n (tagPosition image tag 1 (chainOf image)) (f .answer) (f .form) refl (eqb-true _ _ z)))
-      (λ z. let m : (tagPosition image tag 1 (chainOf image) ≡ 0 → ⊥) = eqb-false _ _ z in
-      absurd (f .none (tagPosition image tag 1 (chainOf image)) (searched n (tagPosition image tag 1 (chainOf image)) (f .answer) (omega arith) refl)))
 
   -- what each answer means
   abbrev Means : Found → Type 0
@@ -151,12 +107,6 @@ module _ (image tag : List ℕ) where
   unfolding findOf
   means = means-after (checkOf image) refl
 
-  pub found-means : (p : ℕ) → findOf image tag ≡ At p → FoundBlock image tag p
-  found-means p e = subst (λ (f : Found). Means f) e means
-
-  pub no-tag-means : findOf image tag ≡ Refused 51 Header → NoSuchTag image tag
-  no-tag-means e = subst (λ (f : Found). Means f) e means refl
-
   -- the bounds of a refusal
   abbrev Bounds : Found → Type 0
   Bounds (At p) = Unit {0}
@@ -177,3 +127,32 @@ module _ (image tag : List ℕ) where
   pub find-bounds : (number : ℕ) (place : Place) → findOf image tag ≡ Refused number place → (1 ≤ number) × (number ≤ 51) × (placeNumber place ≤ slotCount image)
   unfolding findOf
   find-bounds number place e = subst (λ (f : Found). Bounds f) e (bounds-after (checkOf image) refl)
+
+pub found-means : FoundMeans
+found-means image tag p e = subst (λ (f : Found). Means image tag f) e (means image tag)
+
+pub found-when : FoundWhen
+found-when image tag p f =
+    let n = f .blocks in
+    by-test (eqb (tagPosition image tag 1 (chainOf image)) 0)
+    (λ z. absurd (none-found image tag n p (f .answer) (eqb-true _ _ z) (f .has)))
+    (λ z. let m : (tagPosition image tag 1 (chainOf image) ≡ 0 → ⊥) = eqb-false _ _ z in
+    let h = searched image tag n (tagPosition image tag 1 (chainOf image)) (f .answer) (omega arith) refl in
+    sym (find-at image tag n (tagPosition image tag 1 (chainOf image)) (f .answer) (f .form) refl m)
+    ∙ ap At (has-once image tag n (tagPosition image tag 1 (chainOf image)) p (f .answer) h (f .has)))
+
+pub found-once : FoundOnce
+found-once image tag p q f g =
+    let e : At p ≡ At q = sym (found-when image tag p f) ∙ found-when image tag q g in
+    cc
+
+pub no-tag-means : NoTagMeans
+no-tag-means image tag e = subst (λ (f : Found). Means image tag f) e (means image tag) refl
+
+pub no-tag-when : NoTagWhen
+no-tag-when image tag f =
+    let n = f .blocks in
+    by-test (eqb (tagPosition image tag 1 (chainOf image)) 0)
+    (λ z. sym (find-51 image tag n (tagPosition image tag 1 (chainOf image)) (f .answer) (f .form) refl (eqb-true _ _ z)))
+    (λ z. let m : (tagPosition image tag 1 (chainOf image) ≡ 0 → ⊥) = eqb-false _ _ z in
+    absurd (f .none (tagPosition image tag 1 (chainOf image)) (searched image tag n (tagPosition image tag 1 (chainOf image)) (f .answer) (omega arith) refl)))
