@@ -1,18 +1,17 @@
--- What the counted time means, before and after the counter's turn, and the laws of `tick` that the block machine and its history use.
-use Prim.Native.Nat.{ℕ, _+_, _-_, _<_, _≤_}
+-- What the counted time means, before and after the counter's turn, as specs/Clock.antt states it, and the laws of `tick` that the block
+-- machine and its history use.
+use Prim.Native.Nat.{ℕ, _<_, _≤_}
 use mathlib.Core.Bool.{false}
 use mathlib.Core.Path.{_≡_, refl}
 use native.Mathlib.Omega.{arith}
-use Rattle.clock.specs.Clock.{since, start, tick, past}
+use Rattle.clock.specs.Clock.{since, SinceBefore, SinceAfter, start, tick, past}
 use Rattle.clock.specs.declared.Timer.{Timer}
 
--- before the counter's turn: the plain difference
-pub since-before : (from to : ℕ) → from ≤ to → to < 4294967296 → since from to ≡ to - from
+pub since-before : SinceBefore
 unfolding since
 since-before from to h l = omega arith
 
--- after the counter's turn: the difference and one whole count
-pub since-after : (from to : ℕ) → to < from → from < 4294967296 → since from to ≡ to + 4294967296 - from
+pub since-after : SinceAfter
 unfolding since
 since-after from to h l = omega arith
 

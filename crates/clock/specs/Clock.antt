@@ -1,12 +1,22 @@
 -- Document 01, "One call": how time is counted from clock readings, numbers below 4,294,967,296.
-use Prim.Native.Nat.{ℕ, _+_, _-_, _%_, min}
+use Prim.Native.Nat.{ℕ, _+_, _-_, _%_, min, _≤_, _<_}
 use mathlib.Core.Bool.{Bool, not, _&&_}
+use mathlib.Core.Path.{_≡_}
 use lib.Dec.{ltb, eqb}
 use Rattle.clock.specs.declared.Timer.{Timer}
 
 -- "Time from one reading to the next is their difference modulo 4,294,967,296."
 unfoldable pub since : ℕ → ℕ → ℕ
 since from to = (to + 4294967296 - from) % 4294967296
+
+-- "with its meaning proved before and after the counter's turn", in proofs/ClockLaws.antt
+-- theorem since-before: the plain difference
+abbrev pub SinceBefore : Type 0
+SinceBefore = (from to : ℕ) → from ≤ to → to < 4294967296 → since from to ≡ to - from
+
+-- theorem since-after: the difference and one whole count
+abbrev pub SinceAfter : Type 0
+SinceAfter = (from to : ℕ) → to < from → from < 4294967296 → since from to ≡ to + 4294967296 - from
 
 -- at a start: "Last reading = call clock, elapsed 0"
 abbrev pub start : ℕ → Timer
