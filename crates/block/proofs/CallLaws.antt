@@ -8,7 +8,7 @@ use lib.ListN.{length, length-append}
 use Rattle.block.specs.Entry.{entryFits}
 use Rattle.block.specs.Event.{emitted}
 use Rattle.block.specs.Rules.{pass}
-use Rattle.block.specs.Call.{Outcome, lastly, first, Call, stops, goes, callWithin, callOf, CallIsWhole}
+use Rattle.block.specs.Call.{Outcome, lastly, first, Call, stops, goes, callWithin, callOf, CallIsWhole, CallIsUnique}
 use Rattle.block.specs.declared.record.Record.{Record}
 use Rattle.block.specs.declared.entry.Inputs.{Inputs}
 use Rattle.block.specs.declared.entry.Entry.{Entry}
@@ -56,9 +56,11 @@ call-whole k i e r h =
     let w = within k i e 5 r (settled (settled-of k (entryFits e ≡ true) r h)) (rank-most r) in
     record { called = w .called; passes = omega (arith, w .passes, rank-most r); events = omega (arith, w .events, room-most r) }
 
--- a call has one outcome
-pub call-unique : {k : ℕ} {i : Inputs} {e : Entry} {r : Record} {o p : Outcome} → Call k i e r o → Call k i e r p → o ≡ p
-call-unique (stops r h) (stops s g) = refl
-call-unique (stops r h) (goes s o g c) = never (sym g ∙ h)
-call-unique (goes r o h c) (stops s g) = never (sym h ∙ g)
-call-unique {k} {i} {e} (goes r o h c) (goes s p g d) = ap (λ (x : Outcome). first (pass k i e r) x) (call-unique c d)
+one-outcome : {k : ℕ} {i : Inputs} {e : Entry} {r : Record} {o p : Outcome} → Call k i e r o → Call k i e r p → o ≡ p
+one-outcome (stops r h) (stops s g) = refl
+one-outcome (stops r h) (goes s o g c) = never (sym g ∙ h)
+one-outcome (goes r o h c) (stops s g) = never (sym h ∙ g)
+one-outcome {k} {i} {e} (goes r o h c) (goes s p g d) = ap (λ (x : Outcome). first (pass k i e r) x) (one-outcome c d)
+
+pub call-unique : CallIsUnique
+call-unique k i e r o p c d = one-outcome c d
