@@ -15,8 +15,8 @@ use Rattle.table.specs.Place.{andThen}
 use Rattle.table.specs.Image.{slotCount, kindOf, wireSlot, wireCode, startWire, abortWire, tagOf, HasSlot}
 use Rattle.table.specs.Header.{headerCheck, Headed}
 use Rattle.table.specs.Tag.{tagForm, sameBytes}
-use Rattle.table.specs.Walk.{among, Walked, Met, Stopped, walked}
-use Rattle.table.specs.Chain.{slotsOf, chainOf, chainVerdict, positionOf}
+use Rattle.table.specs.Walk.{among, walked}
+use Rattle.table.specs.Chain.{chainOf, chainVerdict, positionOf}
 use Rattle.table.specs.Record.{kindOk, tagAmong, noWire, wireOk, startOk, abortOk, recordCheck, recordsFrom, recordsCheck}
 use Rattle.table.specs.Spare.{sparesCheck}
 use Rattle.table.specs.Check.{verdictOf, checkOf}
@@ -126,14 +126,6 @@ module _ (image : List ℕ) (n : ℕ) (ok : checkOf image ≡ Blocks n) where
 
   pub accepted-headed : Headed image
   accepted-headed = headed-by image header-passed
-
-  -- the walk ended
-  met-by : (w : Walked) → chainVerdict w ≡ Passed → w ≡ Met (slotsOf w)
-  met-by (Met slots) e = refl
-  met-by (Stopped number place) e = not-failed _ number place refl e
-
-  pub accepted-walk : walked image ≡ Met (chainOf image)
-  accepted-walk = met-by (walked image) (group-passes (chainVerdict (walked image)) (andThen (recordsCheck image) (sparesCheck image)) below-header)
 
   -- the number of blocks
   pub accepted-count : length (chainOf image) ≡ n

@@ -1,4 +1,4 @@
--- Laws of the record checks: what the loop of record::check_records keeps, with the tags met so far as numbers.
+-- Laws of the record checks: what the loop of record::check_records keeps, with the tags met so far as numbers. For the proof of that function.
 use Prim.Native.Nat.{ℕ, _+_, _≤_, _<_}
 use mathlib.Core.Path.{_≡_, refl, ap, sym, _∙_}
 use mathlib.Core.List.{List, [], _∷_, _++_}

@@ -1,4 +1,5 @@
--- Laws of the search for a tag: what the loop of lookup::tag_position keeps, and how find's checks make its answer.
+-- Laws of the search for a tag: what the loop of lookup::tag_position keeps, and how find's checks make its answer. For the proofs of the
+-- lookup module and for LookupLaws.
 use Prim.Native.Nat.{ℕ, zero, suc, _+_, _-_, _≤_, _<_}
 use mathlib.Core.Path.{_≡_, refl, ap, sym, _∙_, subst}
 use mathlib.Core.List.{List, [], _∷_}

@@ -1,4 +1,4 @@
--- Laws of the spare slots: zeros by their numbers, and what the loop of spare::check_spares keeps.
+-- Laws of the spare slots: zeros by their numbers, for the proof of spare::slot_zero, and what the loop of spare::check_spares keeps, for its proof.
 use Prim.Native.Nat.{ℕ, suc, _+_, _-_, _*_, _≤_, _<_}
 use mathlib.Core.Path.{_≡_, refl, ap, sym, _∙_}
 use mathlib.Core.List.{List, [], _∷_, _++_}
