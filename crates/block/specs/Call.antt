@@ -56,6 +56,6 @@ pub record Whole (k : ℕ) (i : Inputs) (e : Entry) (r : Record) (o : Outcome) :
 abbrev pub CallIsWhole : Type 0
 CallIsWhole = (k : ℕ) (i : Inputs) (e : Entry) (r : Record) → sound k r ≡ true → Whole k i e r (callOf k i e r)
 
--- and a call has one outcome: proved there too
+-- and a call has one outcome: call-unique, proved there too
 abbrev pub CallIsUnique : Type 0
 CallIsUnique = (k : ℕ) (i : Inputs) (e : Entry) (r : Record) (o p : Outcome) → Call k i e r o → Call k i e r p → o ≡ p

@@ -9,12 +9,11 @@ use Rattle.clock.specs.declared.Timer.{Timer}
 unfoldable pub since : ℕ → ℕ → ℕ
 since from to = (to + 4294967296 - from) % 4294967296
 
--- "with its meaning proved before and after the counter's turn", in proofs/ClockLaws.antt
--- theorem since-before: the plain difference
+-- "with its meaning proved before and after the counter's turn": before it, the plain difference; theorem since-before, proofs/ClockLaws.antt
 abbrev pub SinceBefore : Type 0
 SinceBefore = (from to : ℕ) → from ≤ to → to < 4294967296 → since from to ≡ to - from
 
--- theorem since-after: the difference and one whole count
+-- after it, the difference and one whole count; theorem since-after, there too
 abbrev pub SinceAfter : Type 0
 SinceAfter = (from to : ℕ) → to < from → from < 4294967296 → since from to ≡ to + 4294967296 - from
 

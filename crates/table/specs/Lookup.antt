@@ -80,7 +80,7 @@ pub record NoSuchTag (image tag : List ℕ) : Type 0 where
   pub form : tagForm tag ≡ true
   pub none : (p : ℕ) → HasTag image tag blocks p → ⊥
 
--- Demand 2 of document 01, the tags: a tag finds the block with exactly its eight bytes and no other. Proved in proofs/LookupLaws.antt.
+-- Demand 2 of document 01, of tags: a tag finds the block with exactly its eight bytes and no other. Proved in proofs/LookupLaws.antt.
 -- theorems found-means and found-when: find answers a position exactly where the block there has the tag
 abbrev pub FoundMeans : Type 0
 FoundMeans = (image tag : List ℕ) (p : ℕ) → findOf image tag ≡ At p → FoundBlock image tag p
