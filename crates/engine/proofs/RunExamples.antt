@@ -5,7 +5,7 @@ use Rattle.clock.specs.Clock.{since, tick, past, pastLimit, pastTimeOut}
 use Rattle.words.specs.Word.{number, bytes}
 use Rattle.table.specs.Blocks.{blocksIn, blockIn}
 use Rattle.table.specs.Header.{headerCheck}
-use Rattle.table.specs.Walk.{among, unmet, walkIn, walked}
+use Rattle.table.specs.Walk.{unmet, walkIn, walked}
 use Rattle.table.specs.Chain.{positionFrom}
 use Rattle.table.specs.Record.{tagAmong, recordCheck, recordsFrom, recordsCheck}
 use Rattle.table.specs.Tag.{tagChar, spaces, padded, tagText, tagForm, sameBytes}
@@ -37,7 +37,7 @@ use Rattle.engine.specs.RunExamples.{image, buffer, starts, isDone, dama
 pub run-example : RunExample
 unfolding image buffer starts isDone damaged fails rests isLate isAborted works scans running answersOf passesOf startsOf
     freshOf stateAfter journalOf historyOf scanOf scanBlocks verifyOf stateSound frameForm servedTo served callIn inputsOf flagsSeen
-    checkOf verdictOf headerCheck walked walkIn unmet among recordsCheck recordsFrom recordCheck tagAmong tagForm tagText tagChar padded
+    checkOf verdictOf headerCheck walked walkIn unmet recordsCheck recordsFrom recordCheck tagAmong tagForm tagText tagChar padded
     spaces sameBytes sparesCheck sparesFrom allZero blocksIn blockIn positionFrom
     soundBytes recordForm entryBytes entryForm decodeEntry decodeRecord encodeEntry encodePieces encodeRecord encodeReport encodeEvents
     encodeEvent decodeEvents decodeEvent eventsAt number bytes

@@ -9,7 +9,7 @@ use native.Mathlib.Omega.{arith}
 use lib.Dec.{eqb}
 use borrow.Author.Tests.{ne-eqb, eq-eqb}
 use types.Run.{OneOf}
-use Rattle.kind.specs.Kind.{isOneOf}
+use Rattle.kind.specs.Kind.{among}
 use Rattle.kind.proofs.Logic.{and-left, and-right}
 
 -- f holds at first and the n - 1 numbers after it
@@ -44,13 +44,13 @@ in-range b f first n t k h g =
     let e : first + (k - first) ≡ k = omega arith in
     unequal b (f k) (subst (λ (m : ℕ). agree b f m ≡ true) e (at (agree b f) n first (k - first) t (omega arith)))
 
-pub none-of : (ks : List ℕ) (k : ℕ) → (OneOf ks k → ⊥) → false ≡ isOneOf ks k
+pub none-of : (ks : List ℕ) (k : ℕ) → (OneOf ks k → ⊥) → false ≡ among k ks
 none-of [] k h = refl
-none-of (m ∷ []) k h = rw (ne-eqb k m h)
-none-of (m ∷ n ∷ ms) k h = rw (ne-eqb k m (λ e. h (inl e))) (none-of (n ∷ ms) k (λ o. h (inr o)))
+none-of (m ∷ []) k h = rw (ne-eqb m k (λ e. h (sym e)))
+none-of (m ∷ n ∷ ms) k h = rw (ne-eqb m k (λ e. h (inl (sym e)))) (none-of (n ∷ ms) k (λ o. h (inr o)))
 
-pub some-of : (ks : List ℕ) (k : ℕ) → OneOf ks k → true ≡ isOneOf ks k
+pub some-of : (ks : List ℕ) (k : ℕ) → OneOf ks k → true ≡ among k ks
 some-of [] k h = absurd h
-some-of (m ∷ []) k h = rw (eq-eqb k m h)
-some-of (m ∷ n ∷ ms) k (inl e) = rw (eq-eqb k m e)
-some-of (m ∷ n ∷ ms) k (inr o) = rw (← some-of (n ∷ ms) k o) (sym (or-true (eqb k m)))
+some-of (m ∷ []) k h = rw (eq-eqb m k (sym h))
+some-of (m ∷ n ∷ ms) k (inl e) = rw (eq-eqb m k (sym e))
+some-of (m ∷ n ∷ ms) k (inr o) = rw (← some-of (n ∷ ms) k o) (sym (or-true (eqb m k)))

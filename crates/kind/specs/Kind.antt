@@ -9,9 +9,9 @@ abbrev pub within : ℕ → ℕ → ℕ → Bool
 within first last k = leb first k && leb k last
 
 -- k is one of some numbers
-abbrev pub isOneOf : List ℕ → ℕ → Bool
-isOneOf [] k = false
-isOneOf (m ∷ ms) k = eqb k m || isOneOf ms k
+abbrev pub among : ℕ → List ℕ → Bool
+among k [] = false
+among k (m ∷ ms) = eqb m k || among k ms
 
 -- 1 ETrig, 2 ETrigTI, 3 ETrigTo, 4 ETrigTITo, 5 ETrigA, 6 ETrigATI, 7 ETrigATo, 8 ETrigATITo, 9 LCon, 10 LConTI, 11 LConTo, 12 LConTITo, 13 LConC, 14 LConTIC
 unfoldable pub isKind : ℕ → Bool
@@ -31,7 +31,7 @@ timeLimitKinds = 2 ∷ 4 ∷ 6 ∷ 8 ∷ 10 ∷ 12 ∷ 14 ∷ []
 
 -- "TI time limit"
 unfoldable pub hasTimeLimit : ℕ → Bool
-hasTimeLimit k = isOneOf timeLimitKinds k
+hasTimeLimit k = among k timeLimitKinds
 
 -- "To time-out"
 unfoldable pub hasTimeOut : ℕ → Bool

@@ -10,12 +10,12 @@ use borrow.Author.Tests.{eqb-true, leb-true, ltb-true, ltb-false}
 use lib.Dec.{leb, ltb, eqb}
 use lib.ListN.{length, getD, take}
 use lib.Seq.{getD-take, length-take-le}
-use Rattle.kind.specs.Kind.{isKind, hasAbort}
+use Rattle.kind.specs.Kind.{isKind, hasAbort, among}
 use Rattle.table.specs.Place.{andThen}
 use Rattle.table.specs.Image.{slotCount, kindOf, wireSlot, wireCode, startWire, abortWire, tagOf, HasSlot}
 use Rattle.table.specs.Header.{headerCheck, Headed}
 use Rattle.table.specs.Tag.{tagForm, sameBytes}
-use Rattle.table.specs.Walk.{among, walked}
+use Rattle.table.specs.Walk.{walked}
 use Rattle.table.specs.Chain.{chainOf, chainVerdict, positionOf}
 use Rattle.table.specs.Record.{kindOk, tagAmong, noWire, wireOk, startOk, abortOk, recordCheck, recordsFrom, recordsCheck}
 use Rattle.table.specs.Spare.{sparesCheck}

@@ -10,30 +10,29 @@ use borrow.Author.Tests.{eq-eqb, ne-eqb, eqb-true}
 use lib.Dec.{eqb}
 use lib.ListN.{length, getD, take}
 use lib.Seq.{take-suc}
-use Rattle.table.specs.Walk.{among}
+use Rattle.kind.specs.Kind.{among}
 use Rattle.table.specs.Chain.{positionFrom, positionOf}
 use Rattle.kind.proofs.Logic.{by-test, not-both}
 
 -- one more at the end
 pub among-snoc : (k : ℕ) (xs : List ℕ) (x : ℕ) → among k (xs ++ (x ∷ [])) ≡ (among k xs || eqb x k)
-unfolding among
 among-snoc k [] x = by-test (eqb x k) (λ e. simp e) (λ e. simp e)
 among-snoc k (y ∷ ys) x = by-test (eqb y k) (λ e. simp e) (λ e. simp (e, among-snoc k ys x))
 
 pub position-snoc : (p k : ℕ) (xs : List ℕ) (x : ℕ)
     → positionFrom p k (xs ++ (x ∷ [])) ≡ cond (among k xs) (positionFrom p k xs) (cond (eqb x k) (p + length xs) 0)
-unfolding among positionFrom
+unfolding positionFrom
 position-snoc p k [] x = simp (add-zero)
 position-snoc p k (y ∷ ys) x = by-test (eqb y k) (λ e. simp e) (λ e. simp (e, position-snoc (suc p) k ys x, add-suc, suc-add))
 
 -- the position is 0 exactly where the number is not there
 pub position-zero : (p k : ℕ) (xs : List ℕ) → among k xs ≡ false → positionFrom p k xs ≡ 0
-unfolding among positionFrom
+unfolding positionFrom
 position-zero p k [] h = refl
 position-zero p k (y ∷ ys) h = by-test (eqb y k) (λ e. not-both true refl (simp e at h)) (λ e. simp e (position-zero (suc p) k ys (simp e at h)))
 
 pub position-some : (p k : ℕ) (xs : List ℕ) → among k xs ≡ true → p ≤ positionFrom p k xs
-unfolding among positionFrom
+unfolding positionFrom
 position-some p k [] h = not-both true refl (sym h)
 position-some p k (y ∷ ys) h = by-test (eqb y k) (λ e. simp e (omega arith)) (λ e. simp e (omega (arith, position-some (suc p) k ys (simp e at h))))
 
@@ -50,7 +49,6 @@ position-bound p k (y ∷ ys) = by-test (eqb y k) (λ e. simp e (omega arith)) (
 
 -- a number that stands at an index is there
 pub among-at : (xs : List ℕ) (i : ℕ) → i < length xs → among (getD xs i 0) xs ≡ true
-unfolding among
 among-at [] i h = absurd (omega arith)
 among-at (x ∷ xs) zero h = simp (eq-eqb x x refl)
 among-at (x ∷ xs) (suc i) h = by-test (eqb x (getD xs i 0)) (λ e. simp e) (λ e. simp (e, among-at xs i (omega arith)))
@@ -85,7 +83,6 @@ all-at n (x ∷ xs) zero h l = (h .0, h .1)
 all-at n (x ∷ xs) (suc i) h l = all-at n xs i (h .2) (omega arith)
 
 pub all-among : (n : ℕ) (xs : List ℕ) (k : ℕ) → AllIn n xs → among k xs ≡ true → (0 < k) × (k ≤ n)
-unfolding among
 all-among n [] k h m = not-both true refl (sym m)
 all-among n (x ∷ xs) k h m =
     by-test (eqb x k)

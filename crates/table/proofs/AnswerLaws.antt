@@ -8,12 +8,12 @@ use native.Mathlib.Omega.{arith}
 use borrow.Author.Tests.{ltb-false}
 use lib.Dec.{leb, ltb, eqb}
 use lib.ListN.{length, getD}
-use Rattle.kind.specs.Kind.{within}
+use Rattle.kind.specs.Kind.{within, among}
 use Rattle.table.specs.Place.{placeNumber, require, andThen}
 use Rattle.table.specs.Image.{version, slotCount, headSlot, nextOf, tagOf}
 use Rattle.table.specs.Header.{headerCheck}
 use Rattle.table.specs.Tag.{tagForm}
-use Rattle.table.specs.Walk.{among, unmet, walkIn, walked}
+use Rattle.table.specs.Walk.{unmet, walkIn, walked}
 use Rattle.table.specs.Chain.{chainOf, chainVerdict}
 use Rattle.table.specs.Record.{kindOk, tagAmong, startOk, abortOk, recordCheck, recordsFrom, recordsCheck}
 use Rattle.table.specs.Spare.{spareOk, sparesFrom, sparesCheck}

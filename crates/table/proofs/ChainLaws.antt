@@ -10,9 +10,10 @@ use borrow.Author.Tests.{eq-eqb, eqb-true, eqb-false, ltb-true, ltb-false}
 use lib.Dec.{ltb, eqb}
 use lib.ListN.{length, getD, take, set, replicate, length-append, length-set, List·getD-append}
 use lib.Seq.{take-suc-set, getD-set-same, getD-set-other, getD-take, getD-append-seam, length-take-le}
+use Rattle.kind.specs.Kind.{among}
 use Rattle.table.specs.Image.{slotCount, headSlot, nextOf, HasSlot}
 use Rattle.table.specs.Header.{Headed}
-use Rattle.table.specs.Walk.{among, Met, Stopped, unmet, walkIn, walkFrom, walked}
+use Rattle.table.specs.Walk.{Met, Stopped, unmet, walkIn, walkFrom, walked}
 use Rattle.table.specs.Chain.{slotsOf, chainOf, chainVerdict, positionFrom, positionOf, Placed, Holds}
 use Rattle.table.specs.declared.place.Place.{Place}
 use Rattle.table.specs.declared.place.Place.the-variants.{Header, Slot}

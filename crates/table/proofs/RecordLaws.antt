@@ -9,11 +9,11 @@ use lib.Dec.{eqb}
 use lib.ListN.{length, getD, take, drop, set, length-set}
 use lib.Seq.{drop-cons, drop-length, take-suc, take-suc-set}
 use Rattle.words.specs.Word.{Bytes, number}
+use Rattle.kind.specs.Kind.{among}
 use Rattle.table.specs.Place.{andThen}
 use Rattle.table.specs.Image.{slotCount, tagOf}
 use Rattle.table.specs.Header.{Headed}
 use Rattle.table.specs.Tag.{sameBytes}
-use Rattle.table.specs.Walk.{among}
 use Rattle.table.specs.Chain.{chainOf}
 use Rattle.table.specs.Record.{tagAmong, recordCheck, recordsFrom, recordsCheck}
 use Rattle.table.specs.declared.place.Place.{Place}
@@ -36,7 +36,7 @@ tag-numbers-snoc image (x ∷ ks) k = ap (λ (r : List ℕ). number (tagOf image
 -- a tag is that of an earlier block where its number is
 among-numbers : (image : List ℕ) → Headed image → Bytes image → (k : ℕ) → 0 < k → k ≤ slotCount image → (ks : List ℕ) → AllIn (slotCount image) ks
     → tagAmong image (tagOf image k) ks ≡ among (number (tagOf image k)) (tagNumbers image ks)
-unfolding tagAmong among tagNumbers
+unfolding tagAmong tagNumbers
 among-numbers image hd by k p q [] h = refl
 among-numbers image hd by k p q (x ∷ ks) h =
     let e : sameBytes (tagOf image x) (tagOf image k) ≡ eqb (number (tagOf image x)) (number (tagOf image k)) =

@@ -7,8 +7,9 @@ use mathlib.Core.Bool.{true, false}
 use native.Mathlib.Omega.{arith}
 use borrow.Author.Tests.{lt-ltb, le-ltb, eq-eqb, ne-eqb, eqb-true, eqb-false, ltb-true, ltb-false}
 use lib.Dec.{ltb, eqb}
+use Rattle.kind.specs.Kind.{among}
 use Rattle.table.specs.Image.{slotCount, headSlot, nextOf}
-use Rattle.table.specs.Walk.{among, Walked, Met, Stopped, Walk, ends, above, again, onward, atLink, unmet, walkIn, walkFrom, walked, WalkByRules}
+use Rattle.table.specs.Walk.{Walked, Met, Stopped, Walk, ends, above, again, onward, atLink, unmet, walkIn, walkFrom, walked, WalkByRules}
 use Rattle.table.specs.declared.place.Place.{Place}
 use Rattle.table.specs.declared.place.Place.the-variants.{Header, Slot}
 use Rattle.kind.proofs.Logic.{by-test}
@@ -16,7 +17,7 @@ use Rattle.table.proofs.AmongLaws.{among-snoc}
 
 -- how many slots are not met: all at first,
 pub unmet-nil : (n : ℕ) → unmet n [] ≡ n
-unfolding unmet among
+unfolding unmet
 unmet-nil zero = refl
 unmet-nil (suc n) = ap suc (unmet-nil n)
 

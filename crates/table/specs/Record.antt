@@ -3,11 +3,10 @@ use Prim.Native.Nat.{ℕ, _%_}
 use mathlib.Core.List.{List, [], _∷_, _++_}
 use mathlib.Core.Bool.{Bool, false, cond, not, _&&_, _||_}
 use lib.Dec.{ltb, eqb}
-use Rattle.kind.specs.Kind.{isKind, hasAbort}
+use Rattle.kind.specs.Kind.{isKind, hasAbort, among}
 use Rattle.table.specs.Place.{require, andThen}
 use Rattle.table.specs.Image.{slotByte, kindOf, wireSlot, wireCode, startWire, abortWire, tagOf}
 use Rattle.table.specs.Tag.{tagForm, sameBytes}
-use Rattle.table.specs.Walk.{among}
 use Rattle.table.specs.Chain.{chainOf}
 use Rattle.table.specs.declared.place.Place.the-variants.{Slot}
 use Rattle.table.specs.declared.place.Verdict.{Verdict}

@@ -3,9 +3,9 @@ use Prim.Native.Nat.{ℕ, zero, suc}
 use mathlib.Core.List.{List, [], _∷_}
 use mathlib.Core.Bool.{Bool, true, _&&_, _||_}
 use lib.Dec.{eqb}
+use Rattle.kind.specs.Kind.{among}
 use Rattle.table.specs.Place.{require}
 use Rattle.table.specs.Image.{slotCount, slotBytes}
-use Rattle.table.specs.Walk.{among}
 use Rattle.table.specs.Chain.{chainOf}
 use Rattle.table.specs.declared.place.Place.the-variants.{Slot}
 use Rattle.table.specs.declared.place.Verdict.{Verdict}

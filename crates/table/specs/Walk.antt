@@ -2,16 +2,12 @@
 use Prim.Native.Nat.{ℕ, zero, suc, _<_, _≤_}
 use mathlib.Core.Path.{_≡_}
 use mathlib.Core.List.{List, [], _∷_, _++_}
-use mathlib.Core.Bool.{Bool, true, false, cond, _||_}
+use mathlib.Core.Bool.{true, false, cond}
 use lib.Dec.{ltb, eqb}
+use Rattle.kind.specs.Kind.{among}
 use Rattle.table.specs.Image.{slotCount, headSlot, nextOf}
 use Rattle.table.specs.declared.place.Place.{Place}
 use Rattle.table.specs.declared.place.Place.the-variants.{Header, Slot}
-
--- whether a number is one of some numbers
-unfoldable pub among : ℕ → List ℕ → Bool
-among k [] = false
-among k (x ∷ xs) = eqb x k || among k xs
 
 -- what a walk comes to: the slots met, in order, or the number and place of the check that fails
 pub data Walked : Type 0 where

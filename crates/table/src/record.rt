@@ -2,9 +2,9 @@
 ghost use mathlib.Core.Path.{_≡_};
 ghost use Prim.Native.Nat.{_+_, _<_, _≤_};
 ghost use lib.ListN.{length, take};
+ghost use Rattle.kind.specs.Kind.{among};
 ghost use Rattle.table.specs.Image.{wireSlot, wireCode, HasSlot};
 ghost use Rattle.table.specs.Header.{Headed};
-ghost use Rattle.table.specs.Walk.{among};
 ghost use Rattle.table.specs.Chain.{chainOf, Placed, Holds};
 ghost use Rattle.table.specs.Record.{kindOk, wireOk, abortOk, recordCheck, recordsCheck};
 use crate::chain::on_chain;

@@ -4,7 +4,7 @@ use mathlib.Core.Path.{_≡_, refl, _∙_}
 use mathlib.Core.Logic.{⊎-elim}
 use native.Mathlib.Omega.{arith}
 use lib.ListN.{take}
-use Rattle.table.specs.Walk.{among}
+use Rattle.kind.specs.Kind.{among}
 use Rattle.table.proofs.AmongLaws.{among-hit, among-miss}
 use Rattle.table.proofs.record.tag_among.Statement.{statement}
 use Rattle.table.proofs.record.tag_among.Tie as tie
@@ -16,7 +16,6 @@ abbrev μ-loop : tie.MeasureT-loop
 μ-loop tags n tag found₀ i₀ found i = n - i
 
 loop-holds : tie.Need-loop-holds Inv-loop μ-loop
-unfolding among
 loop-holds c = (omega arith, refl)
 
 mul-if1 : tie.Need-mul-if1 Inv-loop μ-loop
