@@ -52,10 +52,17 @@ pub fn event(v: Event) {
     }
 }
 
-pub fn refusal(n: u8, place: Place) {
-    print(b"refused ");
+fn numbered(text: &[u8], n: u8) {
+    print(text);
     number(n as u64);
-    print(b", place ");
-    let k = table::place::place_number(place);
-    number(k as u64);
+}
+
+// The number of a refusal, and its place where one is named.
+pub fn refusal(n: u8, place: Place) {
+    numbered(b"refused ", n);
+    match place {
+        Place::Header => {}
+        Place::Slot(slot) => numbered(b" at slot ", slot),
+        Place::Position(position) => numbered(b" at position ", position),
+    }
 }

@@ -22,17 +22,17 @@ fn print_numbered(text: &[u8], number: u8) {
     io::print_decimal(1, number as u64);
 }
 
+// The place of a refusal, nothing where none is named.
 fn print_place(place: Place) {
     match place {
-        Place::Header => print(b"header"),
-        Place::Slot(slot) => print_numbered(b"slot ", slot),
-        Place::Position(position) => print_numbered(b"position ", position),
+        Place::Header => {}
+        Place::Slot(slot) => print_numbered(b" at slot ", slot),
+        Place::Position(position) => print_numbered(b" at position ", position),
     }
 }
 
 fn print_refusal(number: u8, place: Place) {
     print_numbered(b"refused ", number);
-    print(b" at ");
     print_place(place);
 }
 
