@@ -1,7 +1,7 @@
 /* A host box of a small gate: five lanes, eight scans and one that is turned back.
  *
  * Build at the root of the repository, after `rt staticlib lane`:
- *     cc -std=c99 -Wall -Wextra -Werror -Iinclude examples/gate_host.c target/staticlib/liblane.a -o gate_host
+ *     gcc -std=c99 -Wall -Wextra -Iinclude examples/gate_host.c target/staticlib/liblane.a -o target/gate_host
  *
  * What happens, by lane (the job number of a block is the truck's):
  *   LANE0  Execute drops while truck 7001 is read, and the job goes on; truck 7002 follows at once.
@@ -20,26 +20,30 @@
 
 enum { LANES = 5, SLOTS = 6, SCANS = 8 };
 
-/* Kinds of blocks. */
-enum { ETRIG = 1, ETRIG_TO = 3, ETRIG_A = 5, ETRIG_A_TO = 7, LCON = 9 };
-
-/* Codes of wires. */
-enum { BUSY = 0, DONE = 1 };
-
-/* Replies of actions. */
-enum { WORKING = 0, COMPLETE = 1, ERROR = 2 };
-
-/* Inputs of a frame entry. */
-enum { START = 1, ABORT = 2 };
+/* Short names for the story below. */
+enum {
+    START = LANE_INPUT_START,
+    ABORT = LANE_INPUT_ABORT,
+    WORKING = LANE_REPLY_WORKING,
+    COMPLETE = LANE_REPLY_COMPLETE
+};
 
 /* Microseconds. */
 #define FIRST_CLOCK 4294917296u
 #define PERIOD 20000u
 #define PIECE 5000u
 
-static const char *const step_names[] = {"Dormant",  "Executing", "Done",     "Error",
-                                         "Aborting", "Aborted",   "Resetting"};
-static const char *const event_names[] = {"?", "start", "done", "failed", "aborted", "withdrawn"};
+static const char *const step_names[] = {
+    [LANE_STEP_DORMANT] = "Dormant",     [LANE_STEP_EXECUTING] = "Executing",
+    [LANE_STEP_DONE] = "Done",           [LANE_STEP_ERROR] = "Error",
+    [LANE_STEP_ABORTING] = "Aborting",   [LANE_STEP_ABORTED] = "Aborted",
+    [LANE_STEP_RESETTING] = "Resetting",
+};
+static const char *const event_names[] = {
+    [LANE_EVENT_START] = "start",         [LANE_EVENT_DONE] = "done",
+    [LANE_EVENT_FAILED] = "failed",       [LANE_EVENT_ABORTED] = "aborted",
+    [LANE_EVENT_WITHDRAWN] = "withdrawn",
+};
 
 /* One block of the table. */
 struct block {
@@ -53,9 +57,11 @@ struct block {
 
 /* In chain order; slot 3 is spare. */
 static const struct block blocks[LANES] = {
-    {2, ETRIG, 5, 0, 0, "LANE0   "},     {5, ETRIG_TO, 1, 2, DONE, "LANEO   "},
-    {1, ETRIG_A_TO, 6, 0, 0, "LANE1   "}, {6, ETRIG_A, 4, 0, 0, "LANEI   "},
-    {4, LCON, 0, 6, BUSY, "GATE    "},
+    {2, LANE_KIND_ETRIG, 5, 0, 0, "LANE0   "},
+    {5, LANE_KIND_ETRIG_TO, 1, 2, LANE_WIRE_DONE, "LANEO   "},
+    {1, LANE_KIND_ETRIG_A_TO, 6, 0, 0, "LANE1   "},
+    {6, LANE_KIND_ETRIG_A, 4, 0, 0, "LANEI   "},
+    {4, LANE_KIND_LCON, 0, 6, LANE_WIRE_BUSY, "GATE    "},
 };
 
 /* What one lane is given in one scan. */
@@ -63,7 +69,6 @@ struct entry {
     uint8_t inputs;
     uint8_t pieces; /* 0 or 1 */
     uint8_t reply;
-    uint16_t code;
     uint8_t abort_reply;
     uint8_t reset_reply;
     uint32_t truck;
@@ -71,9 +76,9 @@ struct entry {
 };
 
 /* An entry with one piece, and one in which nothing replied; the reset is complete at once. */
-#define REPLIES(inputs, reply, truck, time_out) {inputs, 1, reply, 0, WORKING, COMPLETE, truck, time_out}
-#define SILENT(inputs, truck, time_out) {inputs, 0, WORKING, 0, WORKING, COMPLETE, truck, time_out}
-#define ABORTS(inputs, abort_reply, truck) {inputs, 0, WORKING, 0, abort_reply, COMPLETE, truck, 0}
+#define REPLIES(inputs, reply, truck, time_out) {inputs, 1, reply, WORKING, COMPLETE, truck, time_out}
+#define SILENT(inputs, truck, time_out) {inputs, 0, WORKING, WORKING, COMPLETE, truck, time_out}
+#define ABORTS(inputs, abort_reply, truck) {inputs, 0, WORKING, abort_reply, COMPLETE, truck, 0}
 
 static const struct entry story[SCANS][LANES] = {
     /*   LANE0                            LANEO                              LANE1
@@ -113,16 +118,10 @@ struct logged {
     uint8_t bytes[LANE_EVENT_BYTES];
 };
 
-static void put16(uint8_t *to, uint16_t value)
-{
-    to[0] = (uint8_t)value;
-    to[1] = (uint8_t)(value >> 8);
-}
-
 static void put32(uint8_t *to, uint32_t value)
 {
-    put16(to, (uint16_t)value);
-    put16(to + 2, (uint16_t)(value >> 16));
+    for (int i = 0; i < 4; i++)
+        to[i] = (uint8_t)(value >> 8 * i);
 }
 
 static unsigned get16(const uint8_t *from) { return from[0] | (unsigned)from[1] << 8; }
@@ -132,22 +131,22 @@ static unsigned long get32(const uint8_t *from)
     return get16(from) | (unsigned long)get16(from + 2) << 16;
 }
 
-/* Says what refused a call. */
-static void print_refusal(const char *call, uint64_t answer)
+/* Says which check refused a call, where, and why. */
+static void print_refusal(FILE *to, const char *call, uint64_t answer)
 {
     unsigned number = (unsigned)lane_refusal_number(answer);
     unsigned place = (unsigned)lane_refusal_place(answer);
-    printf("%s refused: number %u", call, number);
+    fprintf(to, "%s: refused %u", call, number);
     if (place != 0)
-        printf(" at %s %u", number <= 11 ? "slot" : "position", place);
-    printf("\n");
+        fprintf(to, " at %s %u", number <= 11 ? "slot" : "position", place);
+    fprintf(to, ": %s\n", lane_refusal_text(answer));
 }
 
 /* The value of an answer; ends the program if the call was refused. */
 static uint32_t accepted(const char *call, uint64_t answer)
 {
     if (!lane_is_accepted(answer)) {
-        print_refusal(call, answer);
+        print_refusal(stderr, call, answer);
         exit(EXIT_FAILURE);
     }
     return lane_value(answer);
@@ -157,55 +156,68 @@ static uint32_t accepted(const char *call, uint64_t answer)
 static void expect(int holds, const char *what)
 {
     if (!holds) {
-        printf("not as expected: %s\n", what);
+        fprintf(stderr, "not as expected: %s\n", what);
         exit(EXIT_FAILURE);
     }
 }
 
 static void write_table(uint8_t *image)
 {
-    image[0] = 1;
-    image[1] = SLOTS;
-    image[2] = blocks[0].slot;
+    image[LANE_AT_HEADER_VERSION] = 1;
+    image[LANE_AT_HEADER_SLOTS] = SLOTS;
+    image[LANE_AT_HEADER_HEAD] = blocks[0].slot;
     for (int i = 0; i < LANES; i++) {
         const struct block *block = &blocks[i];
         uint8_t *slot = image + LANE_HEADER_BYTES + LANE_SLOT_BYTES * (block->slot - 1);
-        slot[0] = block->kind;
-        slot[1] = block->next;
-        slot[2] = block->start_slot;
-        slot[3] = block->start_code;
-        memcpy(slot + 8, block->tag, 8);
+        slot[LANE_AT_SLOT_KIND] = block->kind;
+        slot[LANE_AT_SLOT_NEXT] = block->next;
+        slot[LANE_AT_SLOT_START_WIRE] = block->start_slot;
+        slot[LANE_AT_SLOT_START_CODE] = block->start_code;
+        memcpy(slot + LANE_AT_SLOT_TAG, block->tag, LANE_TAG_BYTES);
     }
 }
 
 static void write_entry(uint8_t *to, const struct entry *entry, uint32_t clock)
 {
     memset(to, 0, LANE_ENTRY_BYTES);
-    to[0] = entry->inputs;
-    to[1] = entry->pieces;
-    to[2] = entry->abort_reply;
-    to[3] = entry->reset_reply;
-    put32(to + 8, entry->truck);
-    put32(to + 16, entry->time_out);
-    put32(to + 20, clock);
+    to[LANE_AT_ENTRY_INPUTS] = entry->inputs;
+    to[LANE_AT_ENTRY_COUNT] = entry->pieces;
+    to[LANE_AT_ENTRY_ABORT_REPLY] = entry->abort_reply;
+    to[LANE_AT_ENTRY_RESET_REPLY] = entry->reset_reply;
+    put32(to + LANE_AT_ENTRY_JOB, entry->truck);
+    put32(to + LANE_AT_ENTRY_TIME_OUT, entry->time_out);
+    put32(to + LANE_AT_ENTRY_CLOCK, clock);
     if (entry->pieces != 0) {
-        to[24] = entry->reply;
-        put16(to + 26, entry->code);
-        put32(to + 28, clock + PIECE);
+        uint8_t *piece = to + LANE_AT_ENTRY_PIECES;
+        piece[LANE_AT_PIECE_REPLY] = entry->reply;
+        put32(piece + LANE_AT_PIECE_CLOCK, clock + PIECE);
     }
+}
+
+static void print_legend(void)
+{
+    printf("\nclock: in microseconds; it turns from 4294967295 to 0, as it does before scan 4.\n"
+           "flags: B busy, D done, E error, A aborted.\n"
+           "passes: how many steps the call of a block went through, the last included.\n"
+           "pieces: how many replies of its action the call took.\n"
+           "code: why a job failed; %d is the time-out, any other comes with the reply.\n\n",
+           LANE_CODE_TIME_OUT);
 }
 
 static void print_report(int scan, uint32_t clock, const uint8_t *report)
 {
     for (int i = 0; i < LANES; i++, report += LANE_REPORT_BYTES) {
+        uint8_t flags = report[LANE_AT_REPORT_FLAGS];
         if (i == 0)
             printf("%4d %11lu", scan, (unsigned long)clock);
         else
             printf("%16s", "");
-        printf("  %.8s %-9s  %c%c%c%c %7u %7u %6u %7lu\n", blocks[i].tag, step_names[report[3] % 7],
-               report[0] & 1 ? 'B' : '.', report[0] & 2 ? 'D' : '.', report[0] & 4 ? 'E' : '.',
-               report[0] & 8 ? 'A' : '.', (unsigned)report[2], (unsigned)report[1], get16(report + 4),
-               get32(report + 8));
+        printf("  %.8s %-9s  %c%c%c%c %7u %7u %6u %7lu\n", blocks[i].tag,
+               step_names[report[LANE_AT_REPORT_STEP]], flags & LANE_FLAG_BUSY ? 'B' : '.',
+               flags & LANE_FLAG_DONE ? 'D' : '.', flags & LANE_FLAG_ERROR ? 'E' : '.',
+               flags & LANE_FLAG_ABORTED ? 'A' : '.', (unsigned)report[LANE_AT_REPORT_PASSES],
+               (unsigned)report[LANE_AT_REPORT_PIECES], get16(report + LANE_AT_REPORT_CODE),
+               get32(report + LANE_AT_REPORT_JOB));
     }
 }
 
@@ -214,8 +226,9 @@ static void print_journal(const struct logged *log, size_t events)
     printf("\nJournal\nscan  lane     event       code   truck\n");
     for (size_t i = 0; i < events; i++) {
         const uint8_t *event = log[i].bytes;
-        printf("%4d  %.8s %-9s %6u %7lu\n", log[i].scan, blocks[event[1] - 1].tag,
-               event_names[event[0] % 6], get16(event + 2), get32(event + 4));
+        printf("%4d  %.8s %-9s %6u %7lu\n", log[i].scan, blocks[event[LANE_AT_EVENT_POSITION] - 1].tag,
+               event_names[event[LANE_AT_EVENT_KIND]], get16(event + LANE_AT_EVENT_CODE),
+               get32(event + LANE_AT_EVENT_JOB));
     }
 }
 
@@ -233,26 +246,27 @@ static void find_lanes(const struct box *box)
     static const uint8_t absent[] = "LANE2   ";
     for (uint32_t i = 0; i < LANES; i++) {
         const uint8_t *tag = (const uint8_t *)blocks[i].tag;
-        uint64_t answer = lane_find(box->image, sizeof box->image, tag, 8);
+        uint64_t answer = lane_find(box->image, sizeof box->image, tag, LANE_TAG_BYTES);
         printf("%.8s is at position %u\n", blocks[i].tag, (unsigned)accepted("lane_find", answer));
         expect(lane_value(answer) == i + 1, "position of a tag");
     }
-    uint64_t answer = lane_find(box->image, sizeof box->image, absent, 8);
+    uint64_t answer = lane_find(box->image, sizeof box->image, absent, LANE_TAG_BYTES);
     expect(lane_refusal_number(answer) == 51, "LANE2 is not in the table");
-    print_refusal("lane_find of LANE2", answer);
+    print_refusal(stdout, "LANE2", answer);
 }
 
 /* A frame with one entry out of form is turned back, and nothing is written. */
 static void run_bad_scan(struct box *box)
 {
     struct box before;
-    box->frame[LANE_ENTRY_BYTES * 2 + 3] = ERROR; /* a reset never replies with an error */
+    uint8_t *lane1 = box->frame + LANE_ENTRY_BYTES * 2;
+    lane1[LANE_AT_ENTRY_RESET_REPLY] = LANE_REPLY_ERROR; /* a reset never replies with an error */
     before = *box;
     uint64_t answer = run_scan(box);
     expect(lane_refusal_number(answer) == 31 && lane_refusal_place(answer) == 3, "refusal 31 at 3");
     expect(memcmp(&before, box, sizeof before) == 0, "a refused scan writes nothing");
     printf("\n");
-    print_refusal("lane_scan of a frame with a wrong reply for LANE1", answer);
+    print_refusal(stdout, "A scan with a wrong reply for LANE1", answer);
 }
 
 int main(void)
@@ -267,7 +281,7 @@ int main(void)
     find_lanes(&box);
     accepted("lane_fresh", lane_fresh(box.image, sizeof box.image, box.state, sizeof box.state));
 
-    printf("\nFlags: B busy, D done, E error, A aborted.\n");
+    print_legend();
     printf("scan       clock  lane     step       flags  passes  pieces   code   truck\n");
     for (int scan = 1; scan <= SCANS; scan++) {
         uint32_t clock = FIRST_CLOCK + PERIOD * (uint32_t)(scan - 1);
