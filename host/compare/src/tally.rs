@@ -71,7 +71,7 @@ impl fmt::Display for Tally {
             let (least, greatest) = (least.unwrap_or(&0), greatest.unwrap_or(&0));
             writeln!(
                 f,
-                "{count:>10} refusal {number}, place {least} to {greatest}"
+                "{count:>10} refused {number}, place {least} to {greatest}"
             )?;
         }
         Ok(())

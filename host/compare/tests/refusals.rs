@@ -47,7 +47,7 @@ fn places_are_named() {
         match refusal.place() {
             Place::Unnamed => assert!(refusal.number() <= 5 && !text.contains(" at "), "{name}"),
             place @ Place::Slot(_) => {
-                let front = format!("refusal {} at {place}: ", refusal.number());
+                let front = format!("refused {} at {place}: ", refusal.number());
                 assert!(text.starts_with(&front), "{name}: {text}");
             }
             Place::Position(_) => panic!("{name}: {text}"),

@@ -8,7 +8,7 @@ use compare::rng::{settings, Rng};
 use compare::tables::{alike, no_tag, tag, Fault, Size, Table};
 use compare::tally::Tally;
 use compare::text::{answer, Answer};
-use lane::Refusal;
+use lane::{Engine, Refusal};
 
 /// The numbers of the table checks, and of those that name a slot.
 const TABLE: std::ops::RangeInclusive<u32> = 1..=11;
@@ -132,7 +132,7 @@ fn order_of_the_checks() {
     }
     print!("{tally}");
     for ((given, other), count) in &pairs {
-        println!("{count:>10} refusal {given} with damage for {other}");
+        println!("{count:>10} refused {given} with damage for {other}");
     }
     let before = (1..=6).flat_map(|given| (7..=11).map(move |other| (given, other)));
     let between = (7..=10).flat_map(|given| (7..=11).map(move |other| (given, other)));
@@ -161,6 +161,47 @@ fn any_bytes() {
     tally.expect(1..=5);
 }
 
+/// A tag of the table, or any where it has no block.
+fn known_tag(rng: &mut Rng, table: &Table) -> [u8; 8] {
+    match table.chain.is_empty() {
+        true => tag(rng),
+        false => table.tag(rng.pick(&table.chain)),
+    }
+}
+
+/// What the lookup of a tag in form must answer.
+fn position_of(table: &Table, wanted: &[u8; 8]) -> Answer {
+    let mut chain = table.chain.iter();
+    let index = chain.position(|&slot| table.tag(slot) == *wanted);
+    index.map_or(Err(Refusal::new(51, 0)), |at| Ok(at as u32 + 1))
+}
+
+/// Looks up a tag whose answer is known.
+fn look_up(case: u64, table: &Table, wanted: &[u8], expected: Answer, tally: &mut Tally) {
+    let given = agreed(case, find(&table.image, wanted));
+    expect(case, table, expected, given);
+    tally.add(given);
+}
+
+/// Looks up a tag in form, eight bytes that are none, and bytes of another length.
+fn look_up_any(case: u64, rng: &mut Rng, table: &Table, tally: &mut Tally) {
+    let known = known_tag(rng, table);
+    let wanted = match rng.below(3) {
+        0 => tag(rng),
+        1 => alike(rng, known),
+        _ => known,
+    };
+    look_up(case, table, &wanted, position_of(table, &wanted), tally);
+
+    let refused = Err(Refusal::new(50, 0));
+    look_up(case, table, &no_tag(rng), refused, tally);
+
+    // Seven bytes, nine, none, sixteen: whatever they begin with.
+    let mut wanted = known.to_vec();
+    wanted.resize(rng.pick(&[0, 1, 7, 9, 16]), b' ');
+    look_up(case, table, &wanted, refused, tally);
+}
+
 #[test]
 fn tags() {
     let (seed, cases) = settings("tags", 106, 20_000);
@@ -170,48 +211,16 @@ fn tags() {
         let size = Size::any(&mut rng);
         let mut table = Table::new(&mut rng, size);
         for (position, &slot) in (1..).zip(&table.chain) {
-            let found = agreed(case, find(&table.image, &table.tag(slot)));
-            expect(case, &table, Ok(position), found);
-            tally.add(found);
+            look_up(case, &table, &table.tag(slot), Ok(position), &mut tally);
         }
         for _ in 0..4 {
-            let known = match table.chain.is_empty() {
-                true => tag(&mut rng),
-                false => table.tag(rng.pick(&table.chain)),
-            };
-            let wanted = match rng.below(3) {
-                0 => tag(&mut rng),
-                1 => alike(&mut rng, known),
-                _ => known,
-            };
-            let place = table
-                .chain
-                .iter()
-                .position(|&slot| table.tag(slot) == wanted);
-            let expected = place.map_or(Err(Refusal::new(51, 0)), |at| Ok(at as u32 + 1));
-            let given = agreed(case, find(&table.image, &wanted));
-            expect(case, &table, expected, given);
-            tally.add(given);
-
-            let wanted = no_tag(&mut rng);
-            let given = agreed(case, find(&table.image, &wanted));
-            expect(case, &table, Err(Refusal::new(50, 0)), given);
-            tally.add(given);
-
-            // Seven bytes, nine, none, sixteen: whatever they begin with.
-            let mut wanted = known.to_vec();
-            wanted.resize(rng.pick(&[0, 1, 7, 9, 16]), b' ');
-            let given = agreed(case, find(&table.image, &wanted));
-            expect(case, &table, Err(Refusal::new(50, 0)), given);
-            tally.add(given);
+            look_up_any(case, &mut rng, &table, &mut tally);
         }
         // The checks of the table come first.
         let fault = rng.pick(&Fault::ALL);
         if let Some(refusal) = table.damage(&mut rng, fault) {
             for wanted in [tag(&mut rng), no_tag(&mut rng)] {
-                let given = agreed(case, find(&table.image, &wanted));
-                expect(case, &table, Err(refusal), given);
-                tally.add(given);
+                look_up(case, &table, &wanted, Err(refusal), &mut tally);
             }
         }
     }
@@ -220,4 +229,23 @@ fn tags() {
     tally.expect([50, 51]);
     tally.expect_places(SLOT);
     assert!(tally.accepted() > 0);
+}
+
+/// The binding shows the same slots as the reference, and none where that shows none.
+#[test]
+fn slots_shown() {
+    let (seed, cases) = settings("slots shown", 107, 10_000);
+    for case in 0..cases {
+        let mut rng = Rng::for_case(seed, case);
+        let size = Size::any(&mut rng);
+        let table = Table::new(&mut rng, size);
+        let engine = Engine::new(&table.image).expect("an accepted table");
+        let mut wanted: Vec<_> = table.chain.iter().map(|&slot| table.tag(slot)).collect();
+        wanted.extend([tag(&mut rng), no_tag(&mut rng)]);
+        for tag in wanted {
+            let shown = engine.show(tag).map_or(&[][..], |slot| &slot[..]);
+            let expected = reference::table::show(&table.image, &tag);
+            assert_eq!(shown, expected, "case {case}: {tag:?}");
+        }
+    }
 }

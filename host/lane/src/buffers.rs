@@ -1,11 +1,9 @@
 //! The buffers of a scan, each of the length that its engine's table asks for.
-//!
-//! Positions are from 1. A function that takes one panics where it is 0 or above the number of blocks.
 
 use crate::{Entry, Event, Record, ReportEntry};
 use crate::{ENTRY_BYTES, EVENT_BYTES, RECORD_BYTES, REPORT_BYTES};
 
-/// The part of a position.
+/// The part of a position, from 1.
 fn part<const N: usize>(bytes: &[u8], position: usize) -> &[u8; N] {
     &bytes.as_chunks().0[position - 1]
 }
@@ -29,7 +27,10 @@ impl State {
         &mut self.0
     }
 
-    /// The record at a position, `None` if its bytes are out of form.
+    /// The record at a position, from 1; `None` if its bytes are out of form.
+    ///
+    /// # Panics
+    /// If the position is 0 or above the number of blocks.
     pub fn record(&self, position: usize) -> Option<Record> {
         Record::decode(part::<RECORD_BYTES>(&self.0, position))
     }
@@ -55,12 +56,18 @@ impl Frame {
         &self.0
     }
 
-    /// The entry at a position, `None` if its bytes are out of form.
+    /// The entry at a position, from 1; `None` if its bytes are out of form.
+    ///
+    /// # Panics
+    /// If the position is 0 or above the number of blocks.
     pub fn entry(&self, position: usize) -> Option<Entry> {
         Entry::decode(part::<ENTRY_BYTES>(&self.0, position))
     }
 
-    /// Writes the entry at a position.
+    /// Writes the entry at a position, from 1.
+    ///
+    /// # Panics
+    /// If the position is 0 or above the number of blocks.
     pub fn set(&mut self, position: usize, entry: &Entry) {
         self.0.as_chunks_mut().0[position - 1] = entry.encode();
     }
@@ -85,7 +92,10 @@ impl Report {
         &mut self.0
     }
 
-    /// The entry at a position, `None` if its bytes are out of form.
+    /// The entry at a position, from 1; `None` if its bytes are out of form.
+    ///
+    /// # Panics
+    /// If the position is 0 or above the number of blocks.
     pub fn entry(&self, position: usize) -> Option<ReportEntry> {
         ReportEntry::decode(part::<REPORT_BYTES>(&self.0, position))
     }

@@ -269,6 +269,10 @@ impl Pieces {
 }
 
 impl<const N: usize> From<[Piece; N]> for Pieces {
+    /// These pieces, in order.
+    ///
+    /// # Panics
+    /// With more than four.
     fn from(pieces: [Piece; N]) -> Pieces {
         Pieces::new(&pieces)
     }

@@ -2,8 +2,8 @@
 //!
 //! The engine is an archive of C functions over byte slices. This crate gives its buffers types:
 //!
-//! - [`Engine`] holds a table that the engine has accepted, looks up tags, makes fresh states and runs
-//!   scans.
+//! - [`Engine`] holds a table that the engine has accepted, finds and shows tags, makes fresh states and
+//!   runs scans.
 //! - [`Block`], [`Kind`], [`Tag`], [`Wire`] and [`image`] write a table.
 //! - [`State`], [`Frame`], [`Report`] and [`Journal`] are the buffers of a scan; [`Record`], [`Entry`],
 //!   [`ReportEntry`] and [`Event`] are what they hold.
@@ -24,7 +24,7 @@
 //!
 //! let refusal = engine.find("LANE1   ").unwrap_err();
 //! assert_eq!((refusal.number(), refusal.place()), (51, Place::Unnamed));
-//! assert_eq!(refusal.to_string(), "refusal 51: no block of the table has this tag");
+//! assert_eq!(refusal.to_string(), "refused 51: no block of the table has this tag");
 //! # Ok::<(), lane::Refusal>(())
 //! ```
 

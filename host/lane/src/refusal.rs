@@ -13,7 +13,7 @@ use std::fmt;
 /// assert_eq!(refusal.place(), Place::Slot(3));
 /// assert_eq!(
 ///     refusal.to_string(),
-///     "refusal 9 at slot 3: an earlier block of the chain has this tag"
+///     "refused 9 at slot 3: an earlier block of the chain has this tag"
 /// );
 /// ```
 #[derive(Clone, Copy, Debug, PartialEq, Eq, Hash)]
@@ -102,8 +102,8 @@ impl fmt::Display for Place {
 impl fmt::Display for Refusal {
     fn fmt(&self, f: &mut fmt::Formatter<'_>) -> fmt::Result {
         match self.place() {
-            Place::Unnamed => write!(f, "refusal {}: {}", self.number, self.reason()),
-            place => write!(f, "refusal {} at {place}: {}", self.number, self.reason()),
+            Place::Unnamed => write!(f, "refused {}: {}", self.number, self.reason()),
+            place => write!(f, "refused {} at {place}: {}", self.number, self.reason()),
         }
     }
 }

@@ -62,7 +62,7 @@ impl Engine {
     /// frame.set(1, &entry);
     /// let before = state.clone();
     /// let refusal = engine.scan(&mut state, &frame).unwrap_err();
-    /// assert_eq!(refusal.to_string(), "refusal 31 at position 1: its frame entry is out of form");
+    /// assert_eq!(refusal.to_string(), "refused 31 at position 1: its frame entry is out of form");
     /// assert_eq!(state, before);
     /// # Ok::<(), lane::Refusal>(())
     /// ```
