@@ -142,6 +142,30 @@ pub fn sound(rng: &mut Rng, kind: u8) -> [u8; RECORD] {
     }
 }
 
+/// Gives a record a step and a flag that don't go together on its kind.
+fn spoil_shape(rng: &mut Rng, has: Has, record: &mut [u8; RECORD]) {
+    let (step, flag) = loop {
+        let shape = (rng.byte(1, 6), rng.pick(&[BUSY, DONE, ERROR, ABORTED]));
+        if !shapes(has).contains(&shape) {
+            break shape;
+        }
+    };
+    let code = if flag == ERROR { code(rng) } else { 0 };
+    record[STEP] = step;
+    record[FLAGS] = flag;
+    record[REQUEST] = 0;
+    put(record, CODE, &code.to_le_bytes());
+}
+
+/// An elapsed time above the greatest.
+fn past_held(rng: &mut Rng) -> u64 {
+    match rng.below(3) {
+        0 => HELD + 1,
+        1 => HELD + rng.range(1, 1 << 20) as u64,
+        _ => rng.next() | HELD << rng.range(1, 31),
+    }
+}
+
 /// A record that is unsound in one field.
 pub fn unsound(rng: &mut Rng, kind: u8) -> [u8; RECORD] {
     let has = Has::of(kind);
@@ -163,17 +187,7 @@ pub fn unsound(rng: &mut Rng, kind: u8) -> [u8; RECORD] {
             flags.retain(|&other| other != flag);
             record[FLAGS] |= rng.pick(&flags);
         }
-        // A step and a flag that don't go together.
-        6 => loop {
-            let shape = (rng.byte(1, 6), rng.pick(&[BUSY, DONE, ERROR, ABORTED]));
-            if !shapes(has).contains(&shape) {
-                (record[STEP], record[FLAGS]) = shape;
-                let code = if shape.1 == ERROR { code(rng) } else { 0 };
-                put(&mut record, CODE, &code.to_le_bytes());
-                record[REQUEST] = 0;
-                break;
-            }
-        },
+        6 => spoil_shape(rng, has, &mut record),
         7 => record[REQUEST] = rng.byte(2, 255),
         8 if !may_request(has, flag) => record[REQUEST] = 1,
         9 if flag == ERROR => put(&mut record, CODE, &[0, 0]),
@@ -185,14 +199,7 @@ pub fn unsound(rng: &mut Rng, kind: u8) -> [u8; RECORD] {
         12 if has.level || !has.time_out => {
             put(&mut record, TIME_OUT, &word(rng).max(1).to_le_bytes());
         }
-        13 => {
-            let past = match rng.below(3) {
-                0 => HELD + 1,
-                1 => HELD + rng.range(1, 1 << 20) as u64,
-                _ => rng.next() | HELD << rng.range(1, 31),
-            };
-            put(&mut record, ELAPSED, &past.to_le_bytes());
-        }
+        13 => put(&mut record, ELAPSED, &past_held(rng).to_le_bytes()),
         // An unnamed byte.
         _ => record[rng.pick(&[3, 10, 11])] = rng.byte(1, 255),
     }

@@ -100,25 +100,13 @@ impl List {
     pub fn damage(&self, rng: &mut Rng, scan: &mut Buffers, wrong: Wrong) -> Option<Refusal> {
         let blocks = self.table.chain.len();
         match wrong {
-            Wrong::Table => {
-                let mut table = self.table.clone();
-                let fault = rng.pick(&Fault::ALL);
-                let refusal = table.damage(rng, fault);
-                scan.image = table.image;
-                refusal
-            }
+            Wrong::Table => self.damage_table(rng, scan),
             Wrong::StateLength => {
                 let length = other_length(rng, RECORD * blocks);
                 scan.state.resize(length, 0);
                 Some(Refusal::new(20, 0))
             }
-            Wrong::State => {
-                let index = rng.below(blocks.max(1));
-                let kind = self.table.kind(*self.table.chain.get(index)?);
-                let (records, _) = scan.state.as_chunks_mut();
-                *records.get_mut(index)? = unsound(rng, kind);
-                Some(Refusal::new(21, index as u32 + 1))
-            }
+            Wrong::State => self.damage_record(rng, scan),
             Wrong::FrameLength => {
                 let length = other_length(rng, ENTRY * blocks);
                 scan.frame.resize(length, 0);
@@ -142,6 +130,24 @@ impl List {
                 (blocks > 0).then_some(Refusal::new(41, 0))
             }
         }
+    }
+
+    /// Gives a scan a table with a fault.
+    fn damage_table(&self, rng: &mut Rng, scan: &mut Buffers) -> Option<Refusal> {
+        let mut table = self.table.clone();
+        let fault = rng.pick(&Fault::ALL);
+        let refusal = table.damage(rng, fault);
+        scan.image = table.image;
+        refusal
+    }
+
+    /// Makes a record of the state unsound.
+    fn damage_record(&self, rng: &mut Rng, scan: &mut Buffers) -> Option<Refusal> {
+        let index = rng.below(self.table.chain.len().max(1));
+        let kind = self.table.kind(*self.table.chain.get(index)?);
+        let (records, _) = scan.state.as_chunks_mut();
+        *records.get_mut(index)? = unsound(rng, kind);
+        Some(Refusal::new(21, index as u32 + 1))
     }
 
     /// Changes some bytes of the state and the frame anywhere.

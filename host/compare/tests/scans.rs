@@ -10,7 +10,7 @@ use compare::seen::{events_of, Seen};
 use compare::tables::{Fault, Size, Table};
 use compare::tally::Tally;
 use compare::text::{answer, Answer};
-use lane::{Engine, Entry, EventKind, Frame, Record, ReportEntry, State};
+use lane::{Engine, Entry, EventKind, Frame, Record, Refusal, ReportEntry, State};
 use lane::{ENTRY_BYTES, RECORD_BYTES};
 
 /// The numbers that a scan of an accepted table gives.
@@ -72,7 +72,43 @@ impl Turns {
     }
 }
 
-/// One scan of a list, at times with something wrong in what it is given; the state after it.
+/// At times, makes something wrong in what a scan is given: the refusals that each fault alone must give,
+/// `None` where nothing is known of the answer.
+fn spoil(rng: &mut Rng, list: &List, given: &mut Buffers) -> Option<Vec<Refusal>> {
+    let mut refusals = Vec::new();
+    match rng.below(8) {
+        0 => {
+            let count = rng.pick(&[1, 1, 2, 3]);
+            let mut sorts = Wrong::ALL;
+            rng.shuffle(&mut sorts);
+            for sort in &sorts[..count] {
+                refusals.extend(list.damage(rng, given, *sort));
+            }
+        }
+        1 if rng.one_in(4) => {
+            list.scramble(rng, given);
+            return None;
+        }
+        _ => {}
+    }
+    Some(refusals)
+}
+
+/// Fails unless the answer is the first of these refusals that the checks meet, or accepted without any.
+fn expect_first(case: u64, given: &Buffers, refusals: &[Refusal], found: Answer) {
+    let place = |refusal: &&Refusal| (refusal.number(), refusal.place_number());
+    match refusals.iter().min_by_key(place) {
+        Some(refusal) => expect(case, given, Err(*refusal), found),
+        None => assert!(
+            found.is_ok(),
+            "list {case}: {}: {}",
+            answer(found),
+            line(given)
+        ),
+    }
+}
+
+/// One scan of a list, at times with something wrong: what it was given, what it left, its answer.
 fn step(
     case: u64,
     rng: &mut Rng,
@@ -81,38 +117,10 @@ fn step(
     tally: &mut Tally,
 ) -> (Buffers, Buffers, Answer) {
     let mut given = list.scan(rng, state);
-    let mut refusals = Vec::new();
-    match rng.below(8) {
-        // One or two things wrong: the first that the checks meet is given.
-        0 => {
-            let count = rng.pick(&[1, 1, 2, 3]);
-            let mut sorts = Wrong::ALL;
-            rng.shuffle(&mut sorts);
-            for sort in &sorts[..count] {
-                refusals.extend(list.damage(rng, &mut given, *sort));
-            }
-        }
-        // Some bytes changed, so that nothing is known of the answer.
-        1 if rng.one_in(4) => {
-            list.scramble(rng, &mut given);
-            let (found, after) = agreed(case, scan(&given));
-            tally.add(found);
-            return (given, after, found);
-        }
-        _ => {}
-    }
+    let refusals = spoil(rng, list, &mut given);
     let (found, after) = agreed(case, scan(&given));
-    let first = refusals
-        .iter()
-        .min_by_key(|r| (r.number(), r.place_number()));
-    match first {
-        Some(refusal) => expect(case, &given, Err(*refusal), found),
-        None => assert!(
-            found.is_ok(),
-            "list {case}: {}: {}",
-            answer(found),
-            line(&given)
-        ),
+    if let Some(refusals) = refusals {
+        expect_first(case, &given, &refusals, found);
     }
     tally.add(found);
     (given, after, found)
@@ -180,10 +188,7 @@ fn damaged_scans() {
         let sort = rng.pick(&Wrong::ALL);
         let refusal = list.damage(&mut rng, &mut given, sort);
         let (found, _) = agreed(case, scan(&given));
-        match refusal {
-            Some(refusal) => expect(case, &given, Err(refusal), found),
-            None => assert!(found.is_ok(), "list {case}: {}", line(&given)),
-        }
+        expect_first(case, &given, refusal.as_slice(), found);
         tally.add(found);
     }
     print!("{tally}");
@@ -214,7 +219,7 @@ fn fresh_states() {
                 length + 32,
             ]);
             if length != RECORD_BYTES * blocks {
-                expected = Err(lane::Refusal::new(20, 0));
+                expected = Err(Refusal::new(20, 0));
             }
         }
         if rng.one_in(4) {
