@@ -1,16 +1,16 @@
 -- One block's step: the flags of a block by their byte, the events of a call appended, the four parts of `served` put together, and an idle
--- block, which leaves all but its report entry as it was. For the proofs of `input_of`, `is_idle`, `call_at`, `append_events`, `serve_call` and `serve`.
+-- block, which leaves all but its report entry as it was. For the proofs of
+-- `input_of`, `inputs_at`, `is_idle`, `append_events`, `write_call` and `serve`.
 use Prim.Native.Nat.{ℕ, zero, suc, _+_, _*_, _≤_}
 use native.Mathlib.Nat.{add-zero, add-assoc}
 use native.Mathlib.Numerals.{add-one}
 use native.Mathlib.Omega.{arith}
 use mathlib.Core.List.{List, [], _∷_, _++_, append-assoc, append-nil}
-use mathlib.Core.Bool.{true, false, not, _&&_}
+use mathlib.Core.Bool.{true, false, not}
 use mathlib.Core.Path.{_≡_, refl, ap, sym, _∙_}
 use lib.Dec.{eqb, lit<}
 use lib.ListN.{length, take, drop, getD, length-append, replicate}
 use lib.Seq.{getD-take, getD-drop, take-at, length-take-le}
-use Rattle.table.specs.Blocks.{Block}
 use Rattle.table.specs.declared.blocks.Wire.{Wire}
 use borrow.Author.Tests.{not-true, eqb-true}
 use Rattle.layout.specs.Buffer.{recordLength, eventLength, byteAt, part, put}
@@ -30,35 +30,24 @@ use Rattle.block.specs.CallResult.{outcomeOf}
 use Rattle.block.specs.declared.call.CallResult.{CallResult}
 use Rattle.block.specs.declared.event.Event.{Event}
 use Rattle.block.specs.declared.entry.Inputs.{Inputs}
-use Rattle.block.specs.declared.entry.Entry.{Entry}
 use Rattle.block.specs.declared.record.Record.{Record}
-use Rattle.engine.specs.Inputs.{flagsIn, inputOf, inputsOf}
+use Rattle.engine.specs.Inputs.{flagsIn, wired, inputsOf}
 use Rattle.engine.specs.Callable.{Callable}
-use Rattle.engine.specs.Serve.{Buffers, recordIn, entryIn, untagged, idleIn, callIn, written, served}
+use Rattle.engine.specs.Serve.{Buffers, recordIn, entryIn, untagged, idle, callIn, written, served}
 
 -- "1 flags": byte 1 of the block's record
 pub flags-at : (state : List ℕ) (i : ℕ) → flagsOf (getD state (32 * i + 1) 0) ≡ flagsIn state i
 unfolding decodeRecord
 flags-at state i = ap flagsOf (sym (getD-take 32 (drop (32 * i) state) 1 0 (lit< tt) ∙ getD-drop (32 * i) state 1 0))
 
--- a call by its parts
-pub call-is : (kind : ℕ) (start abort : Wire) (i : ℕ) (frame state : List ℕ) (r : Record) (e : Entry) (inputs : Inputs) (o : Outcome)
-    → r ≡ recordIn state i → e ≡ entryIn frame i
-    → inputs .start ≡ inputOf start (flagsIn state) (e .inputs .start) → inputs .abort ≡ inputOf abort (flagsIn state) (e .inputs .abort)
-    → o ≡ callOf kind inputs e r → o ≡ callIn (untagged kind start abort) i frame state
-unfolding callIn inputsOf
-call-is kind start abort i frame state r e inputs o er ee es ea eo =
-    let ei : inputs ≡ inputsOf (untagged kind start abort) (flagsIn state) (e .inputs) = λ j. record { start = es j; abort = ea j } in
-    eo ∙ (λ j. callOf kind (ei j) e (er j)) ∙ ap (λ (x : Entry). callOf kind (inputsOf (untagged kind start abort) (flagsIn state) (x .inputs)) x (recordIn state i)) ee
+-- the step and the inputs: byte 0 of the block's record, and of its entry
+pub step-at : (state : List ℕ) (i : ℕ) → getD state (32 * i) 0 ≡ recordIn state i .step
+unfolding decodeRecord
+step-at state i = sym (getD-take 32 (drop (32 * i) state) 0 0 (lit< tt) ∙ rw add-zero at (getD-drop (32 * i) state 0 0))
 
--- step and inputs: byte 0 of the record and of the entry
-pub idle-at : (start : Wire) (i : ℕ) (frame state : List ℕ)
-    → eqb (getD state (32 * i) 0) Dormant && not (inputOf start (flagsIn state) (decodeInputs (getD frame (56 * i) 0) .start)) ≡ idleIn start i frame state
-unfolding idleIn decodeRecord decodeEntry
-idle-at start i frame state =
-    let step : getD (part 32 i state) 0 0 ≡ getD state (32 * i) 0 = getD-take 32 (drop (32 * i) state) 0 0 (lit< tt) ∙ rw add-zero at (getD-drop (32 * i) state 0 0) in
-    let bits : getD (part 56 i frame) 0 0 ≡ getD frame (56 * i) 0 = getD-take 56 (drop (56 * i) frame) 0 0 (lit< tt) ∙ rw add-zero at (getD-drop (56 * i) frame 0 0) in
-    rw (step, bits)
+pub bits-at : (frame : List ℕ) (i : ℕ) → decodeInputs (getD frame (56 * i) 0) ≡ entryIn frame i .inputs
+unfolding decodeEntry
+bits-at frame i = ap decodeInputs (sym (getD-take 56 (drop (56 * i) frame) 0 0 (lit< tt) ∙ rw add-zero at (getD-drop (56 * i) frame 0 0)))
 
 -- a value put right after another
 put-put : (at : ℕ) (v w s : List ℕ) → at + length v + length w ≤ length s → put (at + length v) w (put at v s) ≡ put at (v ++ w) s
@@ -110,41 +99,47 @@ module _ (n position : ℕ) (first second : Event) (count : ℕ) (journal : List
       let p : put (8 * n + 8) y (put (8 * n) x journal) ≡ put (8 * n) (x ++ y) journal = put-next (8 * n) 8 x y journal lx (omega arith) in
       rw (both z o, append-nil) (refl, g ∙ ap (put (8 * n + 8) y) h ∙ p)
 
--- what is left in the buffers and the answer, put together
-pub serve-is : (b : Block) (i : ℕ) (frame state report journal : List ℕ) (events : ℕ) (a : CallResult) (newState newReport newJournal : List ℕ) (count : ℕ)
-    → outcomeOf a ≡ callIn b i frame state
+-- what a call leaves in the buffers, put together
+pub written-is : (i : ℕ) (state report journal : List ℕ) (events : ℕ) (a : CallResult) (newState newReport newJournal : List ℕ) (count : ℕ)
     → newState ≡ put (32 * i) (encodeRecord (a .next)) state
     → newReport ≡ put (12 * i) (encodeReport (outcomeOf a)) report
     → newJournal ≡ put (8 * events) (encodeEvents (i + 1) (outcomeOf a .events)) journal
     → count ≡ events + length (outcomeOf a .events)
     → _≡_ {A = Buffers} (record { state = newState; report = newReport; journal = newJournal; events = count })
-    (served b i frame (record { state = state; report = report; journal = journal; events = events }))
-unfolding served
-serve-is b i frame state report journal events a newState newReport newJournal count eo es er ej ec =
+    (written i (outcomeOf a) (record { state = state; report = report; journal = journal; events = events }))
+written-is i state report journal events a newState newReport newJournal count es er ej ec =
     let f : newJournal ≡ put (8 * events) (encodeEvents (suc i) (outcomeOf a .events)) journal = rw add-one at ej in
-    (λ j. record { state = es j; report = er j; journal = f j; events = ec j })
-    ∙ ap (λ (o : Outcome). written i o (record { state = state; report = report; journal = journal; events = events })) eo
+    λ j. record { state = es j; report = er j; journal = f j; events = ec j }
 
--- an idle block: its record is 32 zero bytes and stays so, its report entry is that of a call that changes nothing, and it has no events
-pub idle-is : (b : Block) (i : ℕ) (frame state report journal : List ℕ) (events : ℕ) (a : CallResult) (newReport : List ℕ)
-    → Callable b i frame state → idleIn (b .start) i frame state ≡ true
-    → outcomeOf a ≡ unchanged freshRecord
-    → newReport ≡ put (12 * i) (encodeReport (outcomeOf a)) report
-    → _≡_ {A = Buffers} (record { state = state; report = newReport; journal = journal; events = events })
-    (served b i frame (record { state = state; report = report; journal = journal; events = events }))
-unfolding idleIn callIn inputsOf decodeRecord encodeEvents
-idle-is b i frame state report journal events a newReport c idle ea er =
-    let own = part recordLength i state in
-    let start = inputOf (b .start) (flagsIn state) (entryIn frame i .inputs .start) in
-    let dormant : recordIn state i .step ≡ Dormant = eqb-true (byteAt own 0) 0 (and-left (eqb (byteAt own 0) 0) (not start) idle) in
-    let off : start ≡ false = not-true start (and-right (eqb (byteAt own 0) 0) (not start) idle) in
-    let full : length own ≡ 32 = part-length 32 i state (c .own) in
-    let zeros : own ≡ replicate 32 0 = dormant-zeros own (omega arith) (b .kind) dormant full (c .isSound) in
-    let fresh : recordIn state i ≡ freshRecord = ap decodeRecord zeros ∙ decode-fresh in
-    let called : callIn b i frame state ≡ outcomeOf a = idle-call (b .kind) _ (entryIn frame i) (recordIn state i) dormant off ∙ ap unchanged fresh ∙ sym ea in
-    let kept : put (32 * i) (encodeRecord (a .next)) state ≡ state =
-    ap (λ (r : Record). put (32 * i) (encodeRecord r) state) (ap (λ (o : Outcome). o .next) ea)
-    ∙ ap (λ (v : List ℕ). put (32 * i) v state) (encode-fresh ∙ sym zeros) ∙ put-own (32 * i) 32 state (c .own) in
-    let none : outcomeOf a .events ≡ [] = ap (λ (o : Outcome). o .events) ea in
-    serve-is b i frame state report journal events a state newReport journal events (sym called) (sym kept) er
-    (rw none (sym (put-nothing (8 * events) journal))) (rw none (omega arith))
+-- a block served: its inputs, its call, and what the call leaves
+module _ (kind : ℕ) (start abort : Wire) (i : ℕ) (frame state report journal : List ℕ) (events : ℕ) (inputs : Inputs)
+    (resolved : inputs ≡ wired start abort (flagsIn state) (entryIn frame i .inputs)) (a : CallResult) where
+  abbrev before : Buffers
+  before = record { state = state; report = report; journal = journal; events = events }
+
+  pub served-is : (after : Buffers) → outcomeOf a ≡ callOf kind inputs (entryIn frame i) (recordIn state i) → after ≡ written i (outcomeOf a) before
+      → after ≡ served (untagged kind start abort) i frame before
+  unfolding served callIn inputsOf
+  served-is after called w =
+      w ∙ ap (λ (o : Outcome). written i o before) (called ∙ ap (λ (x : Inputs). callOf kind x (entryIn frame i) (recordIn state i)) resolved)
+
+  -- an idle block: its record is 32 zero bytes and stays so, its report entry is that of a call that changes nothing, and it has no events
+  pub idle-is : Callable kind i frame state → idle inputs (recordIn state i) ≡ true → outcomeOf a ≡ unchanged freshRecord
+      → (newReport : List ℕ) → newReport ≡ put (12 * i) (encodeReport (outcomeOf a)) report
+      → _≡_ {A = Buffers} (record { state = state; report = newReport; journal = journal; events = events }) (served (untagged kind start abort) i frame before)
+  unfolding decodeRecord encodeEvents
+  idle-is c idles ea newReport er =
+      let own = part recordLength i state in
+      let dormant : byteAt own 0 ≡ Dormant = eqb-true (byteAt own 0) 0 (and-left (eqb (byteAt own 0) 0) (not (inputs .start)) idles) in
+      let off : inputs .start ≡ false = not-true (inputs .start) (and-right (eqb (byteAt own 0) 0) (not (inputs .start)) idles) in
+      let full : length own ≡ 32 = part-length 32 i state (c .own) in
+      let zeros : own ≡ replicate 32 0 = dormant-zeros own (omega arith) kind dormant full (c .isSound) in
+      let fresh : recordIn state i ≡ freshRecord = ap decodeRecord zeros ∙ decode-fresh in
+      let called = idle-call kind inputs (entryIn frame i) (recordIn state i) dormant off ∙ ap unchanged fresh ∙ sym ea in
+      let kept : put (32 * i) (encodeRecord (a .next)) state ≡ state =
+      ap (λ (r : Record). put (32 * i) (encodeRecord r) state) (ap (λ (o : Outcome). o .next) ea)
+      ∙ ap (λ (v : List ℕ). put (32 * i) v state) (encode-fresh ∙ sym zeros) ∙ put-own (32 * i) 32 state (c .own) in
+      let none : outcomeOf a .events ≡ [] = ap (λ (o : Outcome). o .events) ea in
+      served-is _ (sym called)
+      (written-is i state report journal events a state newReport journal events (sym kept) er
+      (rw none (sym (put-nothing (8 * events) journal))) (rw none (omega arith)))

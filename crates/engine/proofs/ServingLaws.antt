@@ -27,7 +27,7 @@ use Rattle.block.specs.declared.entry.Entry.{Entry}
 use Rattle.block.proofs.Tests.{each}
 use Rattle.engine.specs.Inputs.{inputsOf}
 use Rattle.engine.specs.Serve.{Buffers, entryIn, callIn, served, servedTo, untagged}
-use Rattle.engine.specs.Callable.{Callable}
+use Rattle.engine.specs.Callable.{Callable, Reached}
 use Rattle.engine.specs.ScanAccepted.{StateFits, GivenFits}
 use Rattle.engine.proofs.GridLaws.{grid-length}
 use Rattle.engine.proofs.Projection.{buffersAt, outcomeAt, state-length, state-later, events-few}
@@ -109,19 +109,23 @@ module _ (blocks : List Block) (frame state₀ report₀ journal₀ : List ℕ) 
 
     -- the next block of an accepted table can be called
     pub serving-callable : (image : List ℕ) (n : ℕ) → checkOf image ≡ Blocks n → blocks ≡ blocksOf image → StateFits blocks state₀ → GivenFits blocks frame report₀ journal₀ → i < n
-        → Callable (untagged kind start abort) i frame state × ((12 * i + 12 ≤ length report) × (8 * events + 16 ≤ length journal))
+        → (Callable kind i frame state × Reached start abort state) × ((12 * i + 12 ≤ length report) × (8 * events + 16 ≤ length journal))
     serving-callable image n ok eb s g l =
         let z = serving-sized s g in
         let c : length blocks ≡ n = ap length eb ∙ accepted-blocks image n ok in (
-          record {
-            few = omega (arith, accepted-few image n ok);
-            own = omega (arith, z .0, s .sized);
-            entry = omega (arith, g .frameSized);
-            start = rw (es, eb) (omega (arith, z .0, s .sized, accepted-start image n ok i l .within));
-            abort = rw (ea, eb) (omega (arith, z .0, s .sized, accepted-abort image n ok i l .within));
-            isSound = rw (ek, serving-record s) (s .sound i (omega arith));
-            pieces = count-few (entryIn frame i) (entry-fits (part entryLength i frame) (g .form i (omega arith)));
-          },
+          (
+            record {
+              few = omega (arith, accepted-few image n ok);
+              own = omega (arith, z .0, s .sized);
+              entry = omega (arith, g .frameSized);
+              isSound = rw (ek, serving-record s) (s .sound i (omega arith));
+              pieces = count-few (entryIn frame i) (entry-fits (part entryLength i frame) (g .form i (omega arith)));
+            },
+            record {
+              start = rw (es, eb) (omega (arith, z .0, s .sized, accepted-start image n ok i l .within));
+              abort = rw (ea, eb) (omega (arith, z .0, s .sized, accepted-abort image n ok i l .within));
+            },
+          ),
           (
             omega (arith, z .1, g .reportSized),
             omega (arith, z .2, z .3, g .room),

@@ -24,6 +24,9 @@ inputOf w flags bit =
     cond (eqb (w .position) 0) bit
     (cond (w .inverted) (not (flagOf (w .flag) (flags (w .position - 1)))) (flagOf (w .flag) (flags (w .position - 1))))
 
--- both inputs of a block; the frame's own bits where no wire is
+-- both inputs from two wires; the frame's own bits where no wire is
+abbrev pub wired : Wire → Wire → (ℕ → Flags) → Inputs → Inputs
+wired start abort flags bits = record { start = inputOf start flags (bits .start); abort = inputOf abort flags (bits .abort) }
+
 unfoldable pub inputsOf : Block → (ℕ → Flags) → Inputs → Inputs
-inputsOf b flags i = record { start = inputOf (b .start) flags (i .start); abort = inputOf (b .abort) flags (i .abort) }
+inputsOf b flags bits = wired (b .start) (b .abort) flags bits

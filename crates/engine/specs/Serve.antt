@@ -14,8 +14,9 @@ use Rattle.table.specs.declared.blocks.Wire.{Wire}
 use Rattle.block.specs.Record.{Dormant}
 use Rattle.block.specs.Call.{Outcome, callOf}
 use Rattle.block.specs.declared.record.Record.{Record}
+use Rattle.block.specs.declared.entry.Inputs.{Inputs}
 use Rattle.block.specs.declared.entry.Entry.{Entry}
-use Rattle.engine.specs.Inputs.{flagsIn, inputOf, inputsOf}
+use Rattle.engine.specs.Inputs.{flagsIn, inputsOf}
 
 -- the lent buffers as they stand, and the events written so far
 pub record Buffers : Type 0 where
@@ -34,9 +35,9 @@ entryIn frame i = decodeEntry (part entryLength i frame)
 abbrev pub untagged : ℕ → Wire → Wire → Block
 untagged kind start abort = record { kind = kind; tag = []; start = start; abort = abort }
 
--- whether the block at index i, with this start wire, is idle: Dormant, and its start false
-unfoldable pub idleIn : Wire → ℕ → List ℕ → List ℕ → Bool
-idleIn start i frame state = eqb (recordIn state i .step) Dormant && not (inputOf start (flagsIn state) (entryIn frame i .inputs .start))
+-- whether a block is idle: Dormant, and its start false
+abbrev pub idle : Inputs → Record → Bool
+idle i r = eqb (r .step) Dormant && not (i .start)
 
 -- the call of the block at index i: "A wired input reads that flag as it stands when the block is called"
 unfoldable pub callIn : Block → ℕ → List ℕ → List ℕ → Outcome

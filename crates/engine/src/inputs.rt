@@ -6,7 +6,7 @@ use table::blocks::Wire;
 ghost use mathlib.Core.Path.{_≡_};
 ghost use Prim.Native.Nat.{_*_, _≤_};
 ghost use lib.ListN.{length};
-ghost use Rattle.engine.specs.Inputs.{flagsIn, flagOf, inputOf};
+ghost use Rattle.engine.specs.Inputs.{flagsIn, flagOf, inputOf, wired};
 
 // Flag 0 busy, 1 done, 2 error, else aborted.
 fn flag_of(n: u8, f: Flags) -> bool
@@ -25,7 +25,7 @@ fn flag_of(n: u8, f: Flags) -> bool
 }
 
 // One input: the frame's bit, or a flag as it stands in the state.
-pub fn input_of(w: Wire, state: &[u8], bit: bool) -> bool
+fn input_of(w: Wire, state: &[u8], bit: bool) -> bool
     requires { ⌜ 32 * w .position ≤ length (now state) ⌝ }
     ensures { λ r. ⌜ r ≡ inputOf w (flagsIn (now (state .entry))) bit ⌝ }
 {
@@ -42,10 +42,10 @@ pub fn input_of(w: Wire, state: &[u8], bit: bool) -> bool
     flag
 }
 
-// Both inputs of a block, from its wires and the frame's bits.
-pub fn inputs_of(start: Wire, abort: Wire, state: &[u8], bits: Inputs) -> Inputs
+// Both inputs, from two wires and the frame's bits.
+pub fn wired(start: Wire, abort: Wire, state: &[u8], bits: Inputs) -> Inputs
     requires { ⌜ (32 * start .position ≤ length (now state)) × (32 * abort .position ≤ length (now state)) ⌝ }
-    ensures { λ r. ⌜ (r .start ≡ inputOf start (flagsIn (now (state .entry))) (bits .start)) × (r .abort ≡ inputOf abort (flagsIn (now (state .entry))) (bits .abort)) ⌝ }
+    ensures { λ r. ⌜ r ≡ wired start abort (flagsIn (now (state .entry))) bits ⌝ }
 {
     Inputs {
         start: input_of(start, state, bits.start),

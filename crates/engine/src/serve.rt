@@ -1,7 +1,7 @@
 // One block's step over the lent buffers.
-use crate::inputs::input_of;
-use crate::inputs::inputs_of;
+use crate::inputs::wired;
 use block::call::CallResult;
+use block::entry::Inputs;
 use block::record::Record;
 use layout::entry::ENTRY_BYTES;
 use layout::event::EVENT_BYTES;
@@ -11,29 +11,36 @@ use table::blocks::Wire;
 ghost use mathlib.Core.Path.{_≡_};
 ghost use Prim.Native.Nat.{_+_, _*_, _≤_, _<_};
 ghost use lib.ListN.{length};
+ghost use Rattle.block.specs.Call.{callOf};
 ghost use Rattle.block.specs.CallResult.{outcomeOf};
 ghost use Rattle.layout.specs.Buffer.{put};
 ghost use Rattle.layout.specs.ReportLayout.{encodeReport};
 ghost use Rattle.layout.specs.EventLayout.{encodeEvents};
-ghost use Rattle.engine.specs.Serve.{untagged, idleIn, callIn, served};
-ghost use Rattle.engine.specs.Callable.{Callable};
+ghost use Rattle.engine.specs.Inputs.{flagsIn, wired};
+ghost use Rattle.engine.specs.Serve.{recordIn, entryIn, untagged, idle, written, served};
+ghost use Rattle.engine.specs.Callable.{Callable, Reached};
 
-// Whether the block at index i, with this start wire, is Dormant and its start is false.
-fn is_idle(start: Wire, i: usize, frame: &[u8], state: &[u8]) -> bool
-    requires { ⌜ (32 * i < length (now state)) × (56 * i < length (now frame)) × (32 * start .position ≤ length (now state)) ⌝ }
-    ensures { λ r. ⌜ r ≡ idleIn start i (now (frame .entry)) (now (state .entry)) ⌝ }
+// The inputs of the block at index i: its wires, else the bits of its entry.
+fn inputs_at(start: Wire, abort: Wire, i: usize, frame: &[u8], state: &[u8]) -> Inputs
+    requires { ⌜ (56 * i < length (now frame)) × Reached start abort (now state) ⌝ }
+    ensures { λ r. ⌜ r ≡ wired start abort (flagsIn (now (state .entry))) (entryIn (now (frame .entry)) i .inputs) ⌝ }
 {
-    if state[RECORD_BYTES * i] != Record::DORMANT {
-        return false;
-    }
     let bits = layout::entry::inputs_of(frame[ENTRY_BYTES * i]);
-    !input_of(start, state, bits.start)
+    wired(start, abort, state, bits)
 }
 
-// The call of the block at index i, of a kind and with two wires: its record and the flags as they stand in the state.
-fn call_at(kind: u8, start: Wire, abort: Wire, i: usize, frame: &[u8], state: &[u8]) -> CallResult
-    requires { ⌜ Callable (untagged kind start abort) i (now frame) (now state) ⌝ }
-    ensures { λ r. ⌜ outcomeOf r ≡ callIn (untagged kind start abort) i (now (frame .entry)) (now (state .entry)) ⌝ }
+// Whether the block at index i is Dormant and its start false.
+fn is_idle(inputs: Inputs, i: usize, state: &[u8]) -> bool
+    requires { ⌜ 32 * i < length (now state) ⌝ }
+    ensures { λ r. ⌜ r ≡ idle inputs (recordIn (now (state .entry)) i) ⌝ }
+{
+    (state[RECORD_BYTES * i] == Record::DORMANT) & !inputs.start
+}
+
+// The call of the block at index i: its record as it stands in the state, and its entry.
+fn call_at(kind: u8, inputs: Inputs, i: usize, frame: &[u8], state: &[u8]) -> CallResult
+    requires { ⌜ Callable kind i (now frame) (now state) ⌝ }
+    ensures { λ r. ⌜ outcomeOf r ≡ callOf kind inputs (entryIn (now (frame .entry)) i) (recordIn (now (state .entry)) i) ⌝ }
 {
     let at = RECORD_BYTES * i;
     let end = at + RECORD_BYTES;
@@ -41,7 +48,6 @@ fn call_at(kind: u8, start: Wire, abort: Wire, i: usize, frame: &[u8], state: &[
     let first = ENTRY_BYTES * i;
     let last = first + ENTRY_BYTES;
     let e = layout::entry::entry_of(&frame[first..last]);
-    let inputs = inputs_of(start, abort, state, e.inputs);
     block::call::call(kind, inputs, e, r)
 }
 
@@ -76,23 +82,18 @@ fn append_events(journal: &mut [u8], events: usize, position: u8, a: CallResult)
     events + 2
 }
 
-// The block at index i is called, and what the call leaves is written; the number of events now in the journal.
-fn serve_call(
-    kind: u8,
-    start: Wire,
-    abort: Wire,
+// What a call of the block at index i leaves is written; the number of events now in the journal.
+fn write_call(
     i: usize,
-    frame: &[u8],
+    a: CallResult,
     state: &mut [u8],
     report: &mut [u8],
     journal: &mut [u8],
     events: usize,
 ) -> usize
-    requires { ⌜ Callable (untagged kind start abort) i (now frame) (now state) ⌝ }
-    requires { ⌜ (12 * i + 12 ≤ length (now report)) × (8 * events + 16 ≤ length (now journal)) ⌝ }
-    ensures { λ r. ⌜ record { state = now (state .exit); report = now (report .exit); journal = now (journal .exit); events = r } ≡ served (untagged kind start abort) i (now (frame .entry)) (record { state = now (state .entry); report = now (report .entry); journal = now (journal .entry); events = events }) ⌝ }
+    requires { ⌜ (i < 64) × (32 * i + 32 ≤ length (now state)) × (12 * i + 12 ≤ length (now report)) × (8 * events + 16 ≤ length (now journal)) ⌝ }
+    ensures { λ r. ⌜ record { state = now (state .exit); report = now (report .exit); journal = now (journal .exit); events = r } ≡ written i (outcomeOf a) (record { state = now (state .entry); report = now (report .entry); journal = now (journal .entry); events = events }) ⌝ }
 {
-    let a = call_at(kind, start, abort, i, frame, &state[..]);
     let next = a.next;
     layout::record::put_record(state, RECORD_BYTES * i, next);
     report_call(report, i, a);
@@ -111,13 +112,15 @@ pub fn serve(
     journal: &mut [u8],
     events: usize,
 ) -> usize
-    requires { ⌜ Callable (untagged kind start abort) i (now frame) (now state) ⌝ }
+    requires { ⌜ Callable kind i (now frame) (now state) × Reached start abort (now state) ⌝ }
     requires { ⌜ (12 * i + 12 ≤ length (now report)) × (8 * events + 16 ≤ length (now journal)) ⌝ }
     ensures { λ r. ⌜ record { state = now (state .exit); report = now (report .exit); journal = now (journal .exit); events = r } ≡ served (untagged kind start abort) i (now (frame .entry)) (record { state = now (state .entry); report = now (report .entry); journal = now (journal .entry); events = events }) ⌝ }
 {
-    if is_idle(start, i, frame, &state[..]) {
+    let inputs = inputs_at(start, abort, i, frame, &state[..]);
+    if is_idle(inputs, i, &state[..]) {
         report_call(report, i, CallResult::idle());
         return events;
     }
-    serve_call(kind, start, abort, i, frame, state, report, journal, events)
+    let a = call_at(kind, inputs, i, frame, &state[..]);
+    write_call(i, a, state, report, journal, events)
 }

@@ -1,10 +1,10 @@
--- `serve::call_at` meets its contract: the record, the entry and the inputs, then the call.
-use mathlib.Core.Path.{_≡_}
+-- `serve::call_at` meets its contract: the record and the entry, then the call.
+use mathlib.Core.Path.{_≡_, _∙_}
 use native.Mathlib.Nat.{add-sub-cancel-left}
 use borrow.Author.Needs.{needs}
+use Rattle.block.specs.Call.{callOf}
 use Rattle.layout.proofs.RecordLaws.{sound-record}
 use Rattle.engine.specs.Serve.{recordIn, entryIn}
-use Rattle.engine.proofs.ServeLaws.{call-is}
 use Rattle.engine.proofs.serve.call_at.Statement.{statement}
 use Rattle.engine.proofs.serve.call_at.Tie as tie
 
@@ -44,23 +44,20 @@ part-entry-of-end c = search needs
 entry-of-requires : tie.Need-entry-of-requires
 entry-of-requires c κs = search needs
 
-inputs-of-requires : tie.Need-inputs-of-requires
-inputs-of-requires c κs = search needs
-
 call-requires : tie.Need-call-requires
 call-requires c κs =
-    let a = c .before .before .before .before .before .before .before .args in
-    let pre = c .before .before .before .before .before .before .before .pre in
-    let r : c .before .before .before .record-of .result ≡ recordIn (a .state .now) (a .i) = rw add-sub-cancel-left at (c .before .before .before .record-of .ensures) in
-    let e : c .before .entry-of .result ≡ entryIn (a .frame .now) (a .i) = rw add-sub-cancel-left at (c .before .entry-of .ensures) in
+    let a = c .before .before .before .before .before .before .args in
+    let pre = c .before .before .before .before .before .before .pre in
+    let r : c .before .before .record-of .result ≡ recordIn (a .state .now) (a .i) = rw add-sub-cancel-left at (c .before .before .record-of .ensures) in
+    let e : c .entry-of .result ≡ entryIn (a .frame .now) (a .i) = rw add-sub-cancel-left at (c .entry-of .ensures) in
     (rw e (pre .pieces), rw r (sound-record _ _ (pre .isSound)))
 
 returns : tie.Need-returns
 returns c =
-    let a = c .before .before .before .before .before .before .before .before .args in
-    let r : c .before .before .before .before .record-of .result ≡ recordIn (a .state .now) (a .i) = rw add-sub-cancel-left at (c .before .before .before .before .record-of .ensures) in
-    let e : c .before .before .entry-of .result ≡ entryIn (a .frame .now) (a .i) = rw add-sub-cancel-left at (c .before .before .entry-of .ensures) in
-    call-is (a .kind) (a .start) (a .abort) (a .i) (a .frame .now) (a .state .now) _ _ _ _ r e (c .before .inputs-of .ensures .0) (c .before .inputs-of .ensures .1) (c .call .ensures .1)
+    let a = c .before .before .before .before .before .before .before .args in
+    let r : c .before .before .before .record-of .result ≡ recordIn (a .state .now) (a .i) = rw add-sub-cancel-left at (c .before .before .before .record-of .ensures) in
+    let e : c .before .entry-of .result ≡ entryIn (a .frame .now) (a .i) = rw add-sub-cancel-left at (c .before .entry-of .ensures) in
+    c .call .ensures .1 ∙ (λ j. callOf (a .kind) (a .inputs) (e j) (r j))
 
 pub call-at-spec : {M : Type 1} → statement M
 call-at-spec =
@@ -78,6 +75,5 @@ call-at-spec =
     part-entry-of-start
     part-entry-of-end
     entry-of-requires
-    inputs-of-requires
     call-requires
     returns)
