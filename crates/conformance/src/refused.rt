@@ -23,7 +23,7 @@ fn answer_line(name: &[u8], answer: Scanned) {
 
 // A scan whose journal is a byte too short for the two events of a block.
 fn short_scan(name: &[u8], image: &[u8; 20], state: &mut [u8; 32], entry: Entry) {
-    let frame = layout::entry::entry_encode(entry);
+    let frame = layout::entry::encode_entry(entry);
     let mut report = [0; 12];
     let mut journal = [0; 15];
     let answer = engine::scan::scan(image, state, &frame, &mut report, &mut journal);

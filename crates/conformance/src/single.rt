@@ -40,7 +40,7 @@ fn answer_line(name: &[u8], answer: Scanned, report: &[u8; 12], journal: &[u8; 1
 
 // One scan, and its line.
 pub fn scan(name: &[u8], image: &[u8; 20], state: &mut [u8; 32], entry: Entry) {
-    let frame = layout::entry::entry_encode(entry);
+    let frame = layout::entry::encode_entry(entry);
     let mut report = [0; 12];
     let mut journal = [0; 16];
     let answer = engine::scan::scan(image, state, &frame, &mut report, &mut journal);

@@ -25,7 +25,7 @@ fn inputs_at(start: Wire, abort: Wire, i: usize, frame: &[u8], state: &[u8]) -> 
     requires { ⌜ (56 * i < length (now frame)) × Reached start abort (now state) ⌝ }
     ensures { λ r. ⌜ r ≡ wired start abort (flagsIn (now (state .entry))) (entryIn (now (frame .entry)) i .inputs) ⌝ }
 {
-    let bits = layout::entry::inputs_of(frame[ENTRY_BYTES * i]);
+    let bits = layout::entry::decode_inputs(frame[ENTRY_BYTES * i]);
     wired(start, abort, state, bits)
 }
 
@@ -44,10 +44,10 @@ fn call_at(kind: u8, inputs: Inputs, i: usize, frame: &[u8], state: &[u8]) -> Ca
 {
     let at = RECORD_BYTES * i;
     let end = at + RECORD_BYTES;
-    let r = layout::record::record_of(&state[at..end]);
+    let r = layout::record::decode_record(&state[at..end]);
     let first = ENTRY_BYTES * i;
     let last = first + ENTRY_BYTES;
-    let e = layout::entry::entry_of(&frame[first..last]);
+    let e = layout::entry::decode_entry(&frame[first..last]);
     block::call::call(kind, inputs, e, r)
 }
 

@@ -19,7 +19,7 @@ const PIECE_BYTES: usize = 8;
 
 const HEAD_BYTES: usize = 24;
 
-pub fn inputs_of(b: u8) -> Inputs
+pub fn decode_inputs(b: u8) -> Inputs
     ensures { λ i. ⌜ i ≡ decodeInputs b ⌝ }
 {
     Inputs {
@@ -28,7 +28,7 @@ pub fn inputs_of(b: u8) -> Inputs
     }
 }
 
-fn piece_of(s: &[u8], at: usize) -> Piece
+fn decode_piece(s: &[u8], at: usize) -> Piece
     requires { ⌜ at + 8 ≤ length (now s) ⌝ }
     ensures { λ p. ⌜ p ≡ decodePiece (now (s .entry)) at ⌝ }
 {
@@ -40,18 +40,18 @@ fn piece_of(s: &[u8], at: usize) -> Piece
 }
 
 // The entry in 56 bytes.
-pub fn entry_of(s: &[u8]) -> Entry
+pub fn decode_entry(s: &[u8]) -> Entry
     requires { ⌜ 56 ≤ length (now s) ⌝ }
     ensures { λ e. ⌜ e ≡ decodeEntry (now (s .entry)) ⌝ }
 {
     let pieces = [
-        piece_of(s, 24),
-        piece_of(s, 32),
-        piece_of(s, 40),
-        piece_of(s, 48),
+        decode_piece(s, 24),
+        decode_piece(s, 32),
+        decode_piece(s, 40),
+        decode_piece(s, 48),
     ];
     Entry {
-        inputs: inputs_of(s[0]),
+        inputs: decode_inputs(s[0]),
         count: s[1],
         abort_reply: s[2],
         reset_reply: s[3],
@@ -121,7 +121,7 @@ fn inputs_byte(i: Inputs) -> u8
 }
 
 // What stands before the pieces.
-fn head_bytes(e: Entry) -> [u8; HEAD_BYTES]
+fn encode_head(e: Entry) -> [u8; HEAD_BYTES]
     ensures { λ b. ⌜ b ≡ take 24 (encodeEntry e) ⌝ }
 {
     let code = words::u16_bytes(e.abort_code);
@@ -157,7 +157,7 @@ fn head_bytes(e: Entry) -> [u8; HEAD_BYTES]
     ]
 }
 
-fn piece_bytes(p: Piece) -> [u8; PIECE_BYTES]
+fn encode_piece(p: Piece) -> [u8; PIECE_BYTES]
     ensures { λ b. ⌜ b ≡ encodePiece p ⌝ }
 {
     let code = words::u16_bytes(p.code);
@@ -178,7 +178,7 @@ fn put_piece(s: &mut [u8], at: usize, p: Piece)
     requires { ⌜ at + 8 ≤ length (now s) ⌝ }
     ensures { λ _. ⌜ now (s .exit) ≡ put at (encodePiece p) (now (s .entry)) ⌝ }
 {
-    let b = piece_bytes(p);
+    let b = encode_piece(p);
     bytes::copy(&b, &mut s[at..]);
 }
 
@@ -198,14 +198,14 @@ pub fn write_entry(out: &mut [u8], e: Entry)
     requires { ⌜ 56 ≤ length (now out) ⌝ }
     ensures { λ _. ⌜ now (out .exit) ≡ encodeEntry e ++ drop 56 (now (out .entry)) ⌝ }
 {
-    let head = head_bytes(e);
+    let head = encode_head(e);
     bytes::copy(&head, out);
     let pieces = e.pieces;
     put_pieces(out, pieces);
 }
 
 // The 56 bytes of an entry.
-pub fn entry_encode(e: Entry) -> [u8; ENTRY_BYTES]
+pub fn encode_entry(e: Entry) -> [u8; ENTRY_BYTES]
     ensures { λ b. ⌜ b ≡ encodeEntry e ⌝ }
 {
     let mut b = [0; ENTRY_BYTES];

@@ -9,7 +9,7 @@ ghost use Rattle.layout.specs.EventLayout.{encodeEvent};
 // Bytes of a journal event.
 pub const EVENT_BYTES: usize = 8;
 
-pub fn event_bytes(position: u8, v: Event) -> [u8; EVENT_BYTES]
+pub fn encode_event(position: u8, v: Event) -> [u8; EVENT_BYTES]
     ensures { λ b. ⌜ b ≡ encodeEvent position v ⌝ }
 {
     let job = words::u32_bytes(v.job);
@@ -31,6 +31,6 @@ pub fn put_event(journal: &mut [u8], at: usize, position: u8, v: Event)
     requires { ⌜ at + 8 ≤ length (now journal) ⌝ }
     ensures { λ _. ⌜ now (journal .exit) ≡ put at (encodeEvent position v) (now (journal .entry)) ⌝ }
 {
-    let b = event_bytes(position, v);
+    let b = encode_event(position, v);
     bytes::copy(&b, &mut journal[at..]);
 }

@@ -40,7 +40,7 @@ pub fn flags_of(b: u8) -> Flags
 }
 
 // The record in 32 bytes.
-pub fn record_of(s: &[u8]) -> Record
+pub fn decode_record(s: &[u8]) -> Record
     requires { ⌜ 32 ≤ length (now s) ⌝ }
     ensures { λ r. ⌜ r ≡ decodeRecord (now (s .entry)) ⌝ }
 {
@@ -60,7 +60,7 @@ pub fn record_of(s: &[u8]) -> Record
 }
 
 // The 32 bytes of a record.
-pub fn record_bytes(r: Record) -> [u8; RECORD_BYTES]
+pub fn encode_record(r: Record) -> [u8; RECORD_BYTES]
     ensures { λ b. ⌜ b ≡ encodeRecord r ⌝ }
 {
     let job = words::u32_bytes(r.job);
@@ -110,7 +110,7 @@ pub fn put_record(s: &mut [u8], at: usize, r: Record)
     requires { ⌜ at + 32 ≤ length (now s) ⌝ }
     ensures { λ _. ⌜ now (s .exit) ≡ put at (encodeRecord r) (now (s .entry)) ⌝ }
 {
-    let b = record_bytes(r);
+    let b = encode_record(r);
     bytes::copy(&b, &mut s[at..]);
 }
 
@@ -123,7 +123,7 @@ fn record_form(s: &[u8]) -> bool
 }
 
 // All 32 bytes are zero.
-fn all_zero(s: &[u8]) -> bool
+fn record_zero(s: &[u8]) -> bool
     requires { ⌜ 32 ≤ length (now s) ⌝ }
     ensures { λ r. ⌜ r ≡ eqb (numberAt 8 (now (s .entry)) 0) 0 && eqb (numberAt 8 (now (s .entry)) 8) 0 && eqb (numberAt 8 (now (s .entry)) 16) 0 && eqb (numberAt 8 (now (s .entry)) 24) 0 ⌝ }
 {
@@ -139,10 +139,10 @@ pub fn sound_bytes(kind: u8, s: &[u8]) -> bool
     ensures { λ r. ⌜ r ≡ soundBytes kind (now (s .entry)) ⌝ }
 {
     if s[0] == Record::DORMANT {
-        return all_zero(s);
+        return record_zero(s);
     }
     if !record_form(s) {
         return false;
     }
-    block::sound::sound(kind, record_of(s))
+    block::sound::sound(kind, decode_record(s))
 }

@@ -10,7 +10,7 @@ ghost use Rattle.layout.specs.ReportLayout.{encodeReport};
 // Bytes of a report entry.
 pub const REPORT_BYTES: usize = 12;
 
-pub fn report_bytes(a: CallResult) -> [u8; REPORT_BYTES]
+pub fn encode_report(a: CallResult) -> [u8; REPORT_BYTES]
     ensures { λ b. ⌜ b ≡ encodeReport (outcomeOf a) ⌝ }
 {
     let r = a.next;
@@ -37,6 +37,6 @@ pub fn write_report(out: &mut [u8], a: CallResult)
     requires { ⌜ 12 ≤ length (now out) ⌝ }
     ensures { λ _. ⌜ now (out .exit) ≡ encodeReport (outcomeOf a) ++ drop 12 (now (out .entry)) ⌝ }
 {
-    let b = report_bytes(a);
+    let b = encode_report(a);
     bytes::copy(&b, out);
 }

@@ -78,7 +78,7 @@ fn check_record(image: &[u8], positions: &[u8; 65], repeated: bool, slot: u8) ->
 }
 
 // Whether a tag is among the first n.
-fn tag_among(tags: &[u64; 64], n: usize, tag: u64) -> bool
+fn is_among(tags: &[u64; 64], n: usize, tag: u64) -> bool
     requires { ⌜ (n ≤ 64) × (length (now tags) ≡ 64) ⌝ }
     ensures { λ r. ⌜ r ≡ among tag (take n (now (tags .entry))) ⌝ }
 {
@@ -104,7 +104,7 @@ pub fn check_records(image: &[u8], slots: &[u8; 64], positions: &[u8; 65], count
     while i < count {
         let slot = slots[i];
         let tag = tag_number(image, slot);
-        let repeated = tag_among(&tags, i, tag);
+        let repeated = is_among(&tags, i, tag);
         let verdict = check_record(image, positions, repeated, slot);
         let Verdict::Passed = verdict else {
             return verdict;

@@ -14,17 +14,17 @@ mul-at c = search needs
 add-end : tie.Need-add-end
 add-end c = search needs
 
-sub-record-of : tie.Need-sub-record-of
-sub-record-of c = search needs
+sub-decode-record : tie.Need-sub-decode-record
+sub-decode-record c = search needs
 
-part-record-of-start : tie.Need-part-record-of-start
-part-record-of-start c = search needs
+part-decode-record-start : tie.Need-part-decode-record-start
+part-decode-record-start c = search needs
 
-part-record-of-end : tie.Need-part-record-of-end
-part-record-of-end c = search needs
+part-decode-record-end : tie.Need-part-decode-record-end
+part-decode-record-end c = search needs
 
-record-of-requires : tie.Need-record-of-requires
-record-of-requires c κs = search needs
+decode-record-requires : tie.Need-decode-record-requires
+decode-record-requires c κs = search needs
 
 mul-first : tie.Need-mul-first
 mul-first c = search needs
@@ -32,31 +32,31 @@ mul-first c = search needs
 add-last : tie.Need-add-last
 add-last c = search needs
 
-sub-entry-of : tie.Need-sub-entry-of
-sub-entry-of c = search needs
+sub-decode-entry : tie.Need-sub-decode-entry
+sub-decode-entry c = search needs
 
-part-entry-of-start : tie.Need-part-entry-of-start
-part-entry-of-start c = search needs
+part-decode-entry-start : tie.Need-part-decode-entry-start
+part-decode-entry-start c = search needs
 
-part-entry-of-end : tie.Need-part-entry-of-end
-part-entry-of-end c = search needs
+part-decode-entry-end : tie.Need-part-decode-entry-end
+part-decode-entry-end c = search needs
 
-entry-of-requires : tie.Need-entry-of-requires
-entry-of-requires c κs = search needs
+decode-entry-requires : tie.Need-decode-entry-requires
+decode-entry-requires c κs = search needs
 
 call-requires : tie.Need-call-requires
 call-requires c κs =
     let a = c .before .before .before .before .before .before .args in
     let pre = c .before .before .before .before .before .before .pre in
-    let r : c .before .before .record-of .result ≡ recordIn (a .state .now) (a .i) = rw add-sub-cancel-left at (c .before .before .record-of .ensures) in
-    let e : c .entry-of .result ≡ entryIn (a .frame .now) (a .i) = rw add-sub-cancel-left at (c .entry-of .ensures) in
+    let r : c .before .before .decode-record .result ≡ recordIn (a .state .now) (a .i) = rw add-sub-cancel-left at (c .before .before .decode-record .ensures) in
+    let e : c .decode-entry .result ≡ entryIn (a .frame .now) (a .i) = rw add-sub-cancel-left at (c .decode-entry .ensures) in
     (rw e (pre .pieces), rw r (sound-record _ _ (pre .isSound)))
 
 returns : tie.Need-returns
 returns c =
     let a = c .before .before .before .before .before .before .before .args in
-    let r : c .before .before .before .record-of .result ≡ recordIn (a .state .now) (a .i) = rw add-sub-cancel-left at (c .before .before .before .record-of .ensures) in
-    let e : c .before .entry-of .result ≡ entryIn (a .frame .now) (a .i) = rw add-sub-cancel-left at (c .before .entry-of .ensures) in
+    let r : c .before .before .before .decode-record .result ≡ recordIn (a .state .now) (a .i) = rw add-sub-cancel-left at (c .before .before .before .decode-record .ensures) in
+    let e : c .before .decode-entry .result ≡ entryIn (a .frame .now) (a .i) = rw add-sub-cancel-left at (c .before .decode-entry .ensures) in
     c .call .ensures .1 ∙ (λ j. callOf (a .kind) (a .inputs) (e j) (r j))
 
 pub call-at-spec : {M : Type 1} → statement M
@@ -65,15 +65,15 @@ call-at-spec =
     (tie.spec
     mul-at
     add-end
-    sub-record-of
-    part-record-of-start
-    part-record-of-end
-    record-of-requires
+    sub-decode-record
+    part-decode-record-start
+    part-decode-record-end
+    decode-record-requires
     mul-first
     add-last
-    sub-entry-of
-    part-entry-of-start
-    part-entry-of-end
-    entry-of-requires
+    sub-decode-entry
+    part-decode-entry-start
+    part-decode-entry-end
+    decode-entry-requires
     call-requires
     returns)

@@ -7,14 +7,14 @@ use Rattle.engine.proofs.ServeLaws.{bits-at}
 use Rattle.engine.proofs.serve.inputs_at.Statement.{statement}
 use Rattle.engine.proofs.serve.inputs_at.Tie as tie
 
-mul-inputs-of : tie.Need-mul-inputs-of
-mul-inputs-of c = search needs
+mul-decode-inputs : tie.Need-mul-decode-inputs
+mul-decode-inputs c = search needs
 
-shared-slice-read-inputs-of : tie.Need-shared-slice-read-inputs-of
-shared-slice-read-inputs-of c = search needs
+shared-slice-read-decode-inputs : tie.Need-shared-slice-read-decode-inputs
+shared-slice-read-decode-inputs c = search needs
 
-inputs-of-requires : tie.Need-inputs-of-requires
-inputs-of-requires c κs = search needs
+decode-inputs-requires : tie.Need-decode-inputs-requires
+decode-inputs-requires c κs = search needs
 
 wired-requires : tie.Need-wired-requires
 wired-requires c κs = search needs
@@ -22,10 +22,10 @@ wired-requires c κs = search needs
 returns : tie.Need-returns
 returns c =
     let a = c .before .before .before .before .before .args in
-    let bits = c .before .inputs-of .ensures ∙ bits-at (a .frame .now) (a .i) in
+    let bits = c .before .decode-inputs .ensures ∙ bits-at (a .frame .now) (a .i) in
     c .wired .ensures ∙ ap (λ (b : Inputs). wired (a .start) (a .abort) (flagsIn (a .state .now)) b) bits
 
 pub inputs-at-spec : {M : Type 1} → statement M
 inputs-at-spec =
     tie.close
-    (tie.spec mul-inputs-of shared-slice-read-inputs-of inputs-of-requires wired-requires returns)
+    (tie.spec mul-decode-inputs shared-slice-read-decode-inputs decode-inputs-requires wired-requires returns)

@@ -8,8 +8,8 @@ use borrow.Author.Needs.{needs}
 use Rattle.layout.proofs.entry.put_piece.Statement.{statement}
 use Rattle.layout.proofs.entry.put_piece.Tie as tie
 
-piece-bytes-requires : tie.Need-piece-bytes-requires
-piece-bytes-requires c κs = search needs
+encode-piece-requires : tie.Need-encode-piece-requires
+encode-piece-requires c κs = search needs
 
 slice-aggregate-copy : tie.Need-slice-aggregate-copy
 slice-aggregate-copy c = omega arith
@@ -33,7 +33,7 @@ returns : tie.Need-returns
 unfolding bytes
 returns c =
     let a = c .before .before .before .before .before .before .before .args in
-    let e = c .before .before .before .before .before .piece-bytes .ensures in
+    let e = c .before .before .before .before .before .encode-piece .ensures in
     let h = c .before .before .copy .ensures .1 in
     put-front (a .at) 8 (a .s .now) (encodePiece (a .p)) (c .before .before .copy .last .1 .0) refl (rw e at h)
 
@@ -41,7 +41,7 @@ pub put-piece-spec : {M : Type 1} → statement M
 put-piece-spec =
     tie.close
     (tie.spec
-    piece-bytes-requires
+    encode-piece-requires
     slice-aggregate-copy
     sub-copy
     part-copy-start

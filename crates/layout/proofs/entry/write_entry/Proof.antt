@@ -7,8 +7,8 @@ use borrow.Author.Needs.{needs}
 use Rattle.layout.proofs.entry.write_entry.Statement.{statement}
 use Rattle.layout.proofs.entry.write_entry.Tie as tie
 
-head-bytes-requires : tie.Need-head-bytes-requires
-head-bytes-requires c κs = search needs
+encode-head-requires : tie.Need-encode-head-requires
+encode-head-requires c κs = search needs
 
 slice-aggregate-copy : tie.Need-slice-aggregate-copy
 slice-aggregate-copy c = omega arith
@@ -26,7 +26,7 @@ returns : tie.Need-returns
 unfolding bytes encodeEntry
 returns c =
     let a = c .before .before .before .before .before .before .before .before .before .before .before .before .args in
-    let e = c .before .before .before .before .before .before .before .before .before .before .head-bytes .ensures in
+    let e = c .before .before .before .before .before .before .before .before .before .before .encode-head .ensures in
     let copied = c .before .before .before .before .before .before .before .copy .ensures .1 in
     entry-put (a .e) (a .out .now) _ _ (rw e at copied) (c .before .before .put-pieces .ensures)
 
@@ -34,7 +34,7 @@ pub write-entry-spec : {M : Type 1} → statement M
 write-entry-spec =
     tie.close
     (tie.spec
-    head-bytes-requires
+    encode-head-requires
     slice-aggregate-copy
     copy-requires
     put-pieces-requires

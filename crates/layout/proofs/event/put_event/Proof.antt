@@ -8,8 +8,8 @@ use borrow.Author.Needs.{needs}
 use Rattle.layout.proofs.event.put_event.Statement.{statement}
 use Rattle.layout.proofs.event.put_event.Tie as tie
 
-event-bytes-requires : tie.Need-event-bytes-requires
-event-bytes-requires c κs = search needs
+encode-event-requires : tie.Need-encode-event-requires
+encode-event-requires c κs = search needs
 
 slice-aggregate-copy : tie.Need-slice-aggregate-copy
 slice-aggregate-copy c = omega arith
@@ -33,7 +33,7 @@ returns : tie.Need-returns
 unfolding bytes encodeEvent
 returns c =
     let a = c .before .before .before .before .before .before .before .args in
-    let e = c .before .before .before .before .before .event-bytes .ensures in
+    let e = c .before .before .before .before .before .encode-event .ensures in
     let h = c .before .before .copy .ensures .1 in
     put-front (a .at) 8 (a .journal .now) (encodeEvent (a .position) (a .v)) (c .before .before .copy .last .1 .0) refl (rw e at h)
 
@@ -41,7 +41,7 @@ pub put-event-spec : {M : Type 1} → statement M
 put-event-spec =
     tie.close
     (tie.spec
-    event-bytes-requires
+    encode-event-requires
     slice-aggregate-copy
     sub-copy
     part-copy-start

@@ -8,8 +8,8 @@ use borrow.Author.Needs.{needs}
 use Rattle.layout.proofs.record.put_record.Statement.{statement}
 use Rattle.layout.proofs.record.put_record.Tie as tie
 
-record-bytes-requires : tie.Need-record-bytes-requires
-record-bytes-requires c κs = search needs
+encode-record-requires : tie.Need-encode-record-requires
+encode-record-requires c κs = search needs
 
 slice-aggregate-copy : tie.Need-slice-aggregate-copy
 slice-aggregate-copy c = omega arith
@@ -33,7 +33,7 @@ returns : tie.Need-returns
 unfolding bytes encodeRecord
 returns c =
     let a = c .before .before .before .before .before .before .before .args in
-    let e = c .before .before .before .before .before .record-bytes .ensures in
+    let e = c .before .before .before .before .before .encode-record .ensures in
     let h = c .before .before .copy .ensures .1 in
     put-front (a .at) 32 (a .s .now) (encodeRecord (a .r)) (c .before .before .copy .last .1 .0) refl (rw e at h)
 
@@ -41,7 +41,7 @@ pub put-record-spec : {M : Type 1} → statement M
 put-record-spec =
     tie.close
     (tie.spec
-    record-bytes-requires
+    encode-record-requires
     slice-aggregate-copy
     sub-copy
     part-copy-start

@@ -13,13 +13,13 @@ use Rattle.layout.proofs.record.sound_bytes.Tie as tie
 shared-slice-read-if1 : tie.Need-shared-slice-read-if1
 shared-slice-read-if1 c = search needs
 
-all-zero-requires : tie.Need-all-zero-requires
-all-zero-requires c κs = search needs
+record-zero-requires : tie.Need-record-zero-requires
+record-zero-requires c κs = search needs
 
 returns : tie.Need-returns
 returns c =
     let a = c .before .before .before .before .args in
-    c .all-zero .ensures ∙ dormant-tests (a .s .now) (omega arith) (a .kind) (c .before .if1 .taken)
+    c .record-zero .ensures ∙ dormant-tests (a .s .now) (omega arith) (a .kind) (c .before .if1 .taken)
 
 record-form-requires : tie.Need-record-form-requires
 record-form-requires c κs = search needs
@@ -31,8 +31,8 @@ returns-2 c =
     let form : recordForm (a .s .now) ≡ false = sym (c .before .record-form .ensures) ∙ not-true _ (c .if2 .taken) in
     rw form
 
-record-of-requires : tie.Need-record-of-requires
-record-of-requires c κs = search needs
+decode-record-requires : tie.Need-decode-record-requires
+decode-record-requires c κs = search needs
 
 sound-requires : tie.Need-sound-requires
 sound-requires c κs = search needs
@@ -42,7 +42,7 @@ unfolding soundBytes
 returns-3 c =
     let a = c .before .before .before .before .before .before .before .args in
     let form : recordForm (a .s .now) ≡ true = sym (c .before .before .before .record-form .ensures) ∙ not-false _ (c .before .before .if2 .left) in
-    let fields : c .sound .result ≡ sound (a .kind) (decodeRecord (a .s .now)) = c .sound .ensures ∙ ap (sound (a .kind)) (c .before .record-of .ensures) in
+    let fields : c .sound .result ≡ sound (a .kind) (decodeRecord (a .s .now)) = c .sound .ensures ∙ ap (sound (a .kind)) (c .before .decode-record .ensures) in
     rw form fields
 
 pub sound-bytes-spec : {M : Type 1} → statement M
@@ -50,10 +50,10 @@ sound-bytes-spec =
     tie.close
     (tie.spec
     shared-slice-read-if1
-    all-zero-requires
+    record-zero-requires
     returns
     record-form-requires
     returns-2
-    record-of-requires
+    decode-record-requires
     sound-requires
     returns-3)

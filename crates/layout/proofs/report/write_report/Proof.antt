@@ -6,8 +6,8 @@ use borrow.Author.Needs.{needs}
 use Rattle.layout.proofs.report.write_report.Statement.{statement}
 use Rattle.layout.proofs.report.write_report.Tie as tie
 
-report-bytes-requires : tie.Need-report-bytes-requires
-report-bytes-requires c κs = search needs
+encode-report-requires : tie.Need-encode-report-requires
+encode-report-requires c κs = search needs
 
 slice-aggregate-copy : tie.Need-slice-aggregate-copy
 slice-aggregate-copy c = omega arith
@@ -20,9 +20,9 @@ same-length c = search needs
 
 returns : tie.Need-returns
 unfolding bytes encodeReport
-returns c = let e = c .before .before .before .before .before .report-bytes .ensures in rw e at (c .before .before .copy .ensures .1)
+returns c = let e = c .before .before .before .before .before .encode-report .ensures in rw e at (c .before .before .copy .ensures .1)
 
 pub write-report-spec : {M : Type 1} → statement M
 write-report-spec =
     tie.close
-    (tie.spec report-bytes-requires slice-aggregate-copy copy-requires same-length returns)
+    (tie.spec encode-report-requires slice-aggregate-copy copy-requires same-length returns)

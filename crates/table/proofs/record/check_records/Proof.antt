@@ -25,8 +25,8 @@ tag-number-requires c κs =
     let a = c .before .before .before .before .args in
     slot-has (a .image .now) (a .count) (a .slots .now) (a .positions .now) (c .before .before .before .before .pre .0) (c .before .before .before .before .pre .1) (c .before .before .loop .i) (c .before .loop-test .taken)
 
-tag-among-requires : tie.Need-tag-among-requires Inv-loop μ-loop
-tag-among-requires c κs = omega (arith, c .before .before .before .before .before .before .pre .1 .few, c .before .before .before .before .loop .inv .sized, c .before .before .before .loop-test .taken)
+is-among-requires : tie.Need-is-among-requires Inv-loop μ-loop
+is-among-requires c κs = omega (arith, c .before .before .before .before .before .before .pre .1 .few, c .before .before .before .before .loop .inv .sized, c .before .before .before .loop-test .taken)
 
 check-record-requires : tie.Need-check-record-requires Inv-loop μ-loop
 check-record-requires c κs =
@@ -47,7 +47,7 @@ returns c =
     recording-failed (a .image .now) (L .tags) (L .i) (c .before .before .before .before .before .before .before .before .before .before .pre .0) (λ i. c .before .before .before .before .before .before .before .before .before .shared-slice-known .given i .fits) (L .inv)
     (omega (arith, held .counted, c .before .before .before .before .before .before .before .loop-test .taken)) (omega (arith, held .counted, held .few))
     _ _ _ _ (slot-is (a .image .now) (a .count) (a .slots .now) (a .positions .now) (c .before .before .before .before .before .before .before .before .before .before .pre .0) held (L .i) (c .before .before .before .before .before .before .before .loop-test .taken))
-    (c .before .before .before .before .before .tag-number .ensures) (c .before .before .before .tag-among .ensures) (c .before .before .check-record .ensures) _ _ (c .enum-told2 .given .1)
+    (c .before .before .before .before .before .tag-number .ensures) (c .before .before .before .is-among .ensures) (c .before .before .check-record .ensures) _ _ (c .enum-told2 .given .1)
 
 mul-tags : tie.Need-mul-tags Inv-loop μ-loop
 mul-tags c = omega (arith, c .before .before .before .before .before .before .before .before .before .before .pre .1 .few, c .before .before .before .before .before .before .before .loop-test .taken)
@@ -69,7 +69,7 @@ loop-again c =
     recording-on (a .image .now) (L .tags) (L .i) (c .before .before .before .before .before .before .before .before .before .before .pre .0) (λ i. c .before .before .before .before .before .before .before .before .before .shared-slice-known .given i .fits) (L .inv)
     (omega (arith, held .counted, c .before .before .before .before .before .before .before .loop-test .taken)) (omega (arith, held .counted, held .few))
     _ _ _ _ (slot-is (a .image .now) (a .count) (a .slots .now) (a .positions .now) (c .before .before .before .before .before .before .before .before .before .before .pre .0) held (L .i) (c .before .before .before .before .before .before .before .loop-test .taken))
-    (c .before .before .before .before .before .tag-number .ensures) (c .before .before .before .tag-among .ensures) (c .before .before .check-record .ensures) (c .enum-told .given .1)
+    (c .before .before .before .before .before .tag-number .ensures) (c .before .before .before .is-among .ensures) (c .before .before .check-record .ensures) (c .enum-told .given .1)
 
 returns-2 : tie.Need-returns-2 Inv-loop μ-loop
 returns-2 c =
@@ -85,7 +85,7 @@ check-records-spec =
     loop-holds
     element-copy-out-slot
     tag-number-requires
-    tag-among-requires
+    is-among-requires
     check-record-requires
     enum-told
     enum-told-2

@@ -1,12 +1,12 @@
--- `record::record_bytes` meets its contract: the array is the definition, written out byte by byte.
+-- `record::encode_record` meets its contract: the array is the definition, written out byte by byte.
 use native.Mathlib.Omega.{arith}
 use Rattle.words.specs.Word.{bytes}
 use Rattle.layout.specs.RecordLayout.{encodeRecord}
 use mathlib.Core.List.{[], _∷_}
 use lib.ListN.{getD}
 use borrow.Author.Needs.{needs}
-use Rattle.layout.proofs.record.record_bytes.Statement.{statement}
-use Rattle.layout.proofs.record.record_bytes.Tie as tie
+use Rattle.layout.proofs.record.encode_record.Statement.{statement}
+use Rattle.layout.proofs.record.encode_record.Tie as tie
 
 u32-bytes-requires : tie.Need-u32-bytes-requires
 u32-bytes-requires c κs = search needs
@@ -129,8 +129,8 @@ returns c =
     ∷ getD elapsed 0 0 ∷ getD elapsed 1 0 ∷ getD elapsed 2 0 ∷ getD elapsed 3 0 ∷ getD elapsed 4 0 ∷ getD elapsed 5 0 ∷ getD elapsed 6 0 ∷ getD elapsed 7 0
     ∷ []
 
-pub record-bytes-spec : {M : Type 1} → statement M
-record-bytes-spec =
+pub encode-record-spec : {M : Type 1} → statement M
+encode-record-spec =
     tie.close
     (tie.spec
     u32-bytes-requires

@@ -1,9 +1,9 @@
--- `entry::piece_of` meets its contract, field by field.
+-- `entry::decode_piece` meets its contract, field by field.
 use native.Mathlib.Omega.{arith}
 use Rattle.layout.specs.Buffer.{byteAt}
 use borrow.Author.Needs.{needs}
-use Rattle.layout.proofs.entry.piece_of.Statement.{statement}
-use Rattle.layout.proofs.entry.piece_of.Tie as tie
+use Rattle.layout.proofs.entry.decode_piece.Statement.{statement}
+use Rattle.layout.proofs.entry.decode_piece.Tie as tie
 
 shared-slice-read-t4 : tie.Need-shared-slice-read-t4
 shared-slice-read-t4 c = omega arith
@@ -25,7 +25,7 @@ returns c =
     let a = c .before .before .before .before .args in
     λ i. record { reply = byteAt (a .s .now) (a .at); code = c .before .u16-at .ensures i; clock = c .u32-at .ensures i }
 
-pub piece-of-spec : {M : Type 1} → statement M
-piece-of-spec =
+pub decode-piece-spec : {M : Type 1} → statement M
+decode-piece-spec =
     tie.close
     (tie.spec shared-slice-read-t4 add-u16-at u16-at-requires add-u32-at u32-at-requires returns)

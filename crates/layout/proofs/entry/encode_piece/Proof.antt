@@ -1,9 +1,9 @@
--- `entry::piece_bytes` meets its contract: the array is the definition, written out.
+-- `entry::encode_piece` meets its contract: the array is the definition, written out.
 use native.Mathlib.Omega.{arith}
 use Rattle.words.specs.Word.{bytes}
 use borrow.Author.Needs.{needs}
-use Rattle.layout.proofs.entry.piece_bytes.Statement.{statement}
-use Rattle.layout.proofs.entry.piece_bytes.Tie as tie
+use Rattle.layout.proofs.entry.encode_piece.Statement.{statement}
+use Rattle.layout.proofs.entry.encode_piece.Tie as tie
 
 u16-bytes-requires : tie.Need-u16-bytes-requires
 u16-bytes-requires c κs = search needs
@@ -33,8 +33,8 @@ returns : tie.Need-returns
 unfolding bytes
 returns c = rw (c .u32-bytes .ensures, c .before .u16-bytes .ensures)
 
-pub piece-bytes-spec : {M : Type 1} → statement M
-piece-bytes-spec =
+pub encode-piece-spec : {M : Type 1} → statement M
+encode-piece-spec =
     tie.close
     (tie.spec
     u16-bytes-requires

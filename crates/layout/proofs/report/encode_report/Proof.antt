@@ -1,12 +1,12 @@
--- `report::report_bytes` meets its contract: the array is the definition, written out.
+-- `report::encode_report` meets its contract: the array is the definition, written out.
 use native.Mathlib.Omega.{arith}
 use Rattle.words.specs.Word.{bytes}
 use Rattle.layout.specs.ReportLayout.{encodeReport}
 use mathlib.Core.List.{[], _∷_}
 use lib.ListN.{getD}
 use borrow.Author.Needs.{needs}
-use Rattle.layout.proofs.report.report_bytes.Statement.{statement}
-use Rattle.layout.proofs.report.report_bytes.Tie as tie
+use Rattle.layout.proofs.report.encode_report.Statement.{statement}
+use Rattle.layout.proofs.report.encode_report.Tie as tie
 
 u32-bytes-requires : tie.Need-u32-bytes-requires
 u32-bytes-requires c κs = search needs
@@ -46,8 +46,8 @@ returns c =
     ∷ getD code 0 0 ∷ getD code 1 0 ∷ 0 ∷ 0
     ∷ getD job 0 0 ∷ getD job 1 0 ∷ getD job 2 0 ∷ getD job 3 0 ∷ []
 
-pub report-bytes-spec : {M : Type 1} → statement M
-report-bytes-spec =
+pub encode-report-spec : {M : Type 1} → statement M
+encode-report-spec =
     tie.close
     (tie.spec
     u32-bytes-requires

@@ -1,29 +1,29 @@
--- `entry::entry_of` meets its contract, field by field.
+-- `entry::decode_entry` meets its contract, field by field.
 use native.Mathlib.Omega.{arith}
 use mathlib.Core.List.{[], _∷_}
 use Rattle.layout.specs.Buffer.{byteAt}
 use Rattle.layout.specs.EntryLayout.{decodeEntry}
 use borrow.Author.Needs.{needs}
-use Rattle.layout.proofs.entry.entry_of.Statement.{statement}
-use Rattle.layout.proofs.entry.entry_of.Tie as tie
+use Rattle.layout.proofs.entry.decode_entry.Statement.{statement}
+use Rattle.layout.proofs.entry.decode_entry.Tie as tie
 
-piece-of-requires : tie.Need-piece-of-requires
-piece-of-requires c κs = search needs
+decode-piece-requires : tie.Need-decode-piece-requires
+decode-piece-requires c κs = search needs
 
-piece-of-requires-2 : tie.Need-piece-of-requires-2
-piece-of-requires-2 c κs = search needs
+decode-piece-requires-2 : tie.Need-decode-piece-requires-2
+decode-piece-requires-2 c κs = search needs
 
-piece-of-requires-3 : tie.Need-piece-of-requires-3
-piece-of-requires-3 c κs = search needs
+decode-piece-requires-3 : tie.Need-decode-piece-requires-3
+decode-piece-requires-3 c κs = search needs
 
-piece-of-requires-4 : tie.Need-piece-of-requires-4
-piece-of-requires-4 c κs = search needs
+decode-piece-requires-4 : tie.Need-decode-piece-requires-4
+decode-piece-requires-4 c κs = search needs
 
-shared-slice-read-inputs-of : tie.Need-shared-slice-read-inputs-of
-shared-slice-read-inputs-of c = omega arith
+shared-slice-read-decode-inputs : tie.Need-shared-slice-read-decode-inputs
+shared-slice-read-decode-inputs c = omega arith
 
-inputs-of-requires : tie.Need-inputs-of-requires
-inputs-of-requires c κs = search needs
+decode-inputs-requires : tie.Need-decode-inputs-requires
+decode-inputs-requires c κs = search needs
 
 shared-slice-read-t11 : tie.Need-shared-slice-read-t11
 shared-slice-read-t11 c = omega arith
@@ -55,7 +55,7 @@ returns c =
     let four = c .before .before .before .before .before .before .before .before .before .before in
     let s = c .before .before .before .before .before .before .before .before .before .before .before .before .before .before .before .args .s .now in
     λ i. record {
-      inputs = c .before .before .before .before .before .before .before .before .inputs-of .ensures i;
+      inputs = c .before .before .before .before .before .before .before .before .decode-inputs .ensures i;
       count = byteAt s 1;
       «abort_reply» = byteAt s 2;
       «reset_reply» = byteAt s 3;
@@ -65,23 +65,23 @@ returns c =
       timeout = c .before .u32-at3 .ensures i;
       clock = c .u32-at4 .ensures i;
       pieces =
-          four .before .before .before .piece-of .ensures i
-          ∷ four .before .before .piece-of2 .ensures i
-          ∷ four .before .piece-of3 .ensures i
-          ∷ four .piece-of4 .ensures i
+          four .before .before .before .decode-piece .ensures i
+          ∷ four .before .before .decode-piece2 .ensures i
+          ∷ four .before .decode-piece3 .ensures i
+          ∷ four .decode-piece4 .ensures i
           ∷ [];
     }
 
-pub entry-of-spec : {M : Type 1} → statement M
-entry-of-spec =
+pub decode-entry-spec : {M : Type 1} → statement M
+decode-entry-spec =
     tie.close
     (tie.spec
-    piece-of-requires
-    piece-of-requires-2
-    piece-of-requires-3
-    piece-of-requires-4
-    shared-slice-read-inputs-of
-    inputs-of-requires
+    decode-piece-requires
+    decode-piece-requires-2
+    decode-piece-requires-3
+    decode-piece-requires-4
+    shared-slice-read-decode-inputs
+    decode-inputs-requires
     shared-slice-read-t11
     shared-slice-read-t13
     shared-slice-read-t15

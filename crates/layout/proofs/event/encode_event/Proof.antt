@@ -1,12 +1,12 @@
--- `event::event_bytes` meets its contract: the array is the definition, written out.
+-- `event::encode_event` meets its contract: the array is the definition, written out.
 use native.Mathlib.Omega.{arith}
 use Rattle.words.specs.Word.{bytes}
 use Rattle.layout.specs.EventLayout.{encodeEvent}
 use mathlib.Core.List.{[], _∷_}
 use lib.ListN.{getD}
 use borrow.Author.Needs.{needs}
-use Rattle.layout.proofs.event.event_bytes.Statement.{statement}
-use Rattle.layout.proofs.event.event_bytes.Tie as tie
+use Rattle.layout.proofs.event.encode_event.Statement.{statement}
+use Rattle.layout.proofs.event.encode_event.Tie as tie
 
 u32-bytes-requires : tie.Need-u32-bytes-requires
 u32-bytes-requires c κs = search needs
@@ -41,8 +41,8 @@ returns c =
     let code = c .u16-bytes .ensures i in
     a .v .kind ∷ a .position ∷ getD code 0 0 ∷ getD code 1 0 ∷ getD job 0 0 ∷ getD job 1 0 ∷ getD job 2 0 ∷ getD job 3 0 ∷ []
 
-pub event-bytes-spec : {M : Type 1} → statement M
-event-bytes-spec =
+pub encode-event-spec : {M : Type 1} → statement M
+encode-event-spec =
     tie.close
     (tie.spec
     u32-bytes-requires

@@ -1,7 +1,7 @@
--- `record::all_zero` meets its contract: four numbers of eight bytes.
+-- `record::record_zero` meets its contract: four numbers of eight bytes.
 use borrow.Author.Needs.{needs}
-use Rattle.layout.proofs.record.all_zero.Statement.{statement}
-use Rattle.layout.proofs.record.all_zero.Tie as tie
+use Rattle.layout.proofs.record.record_zero.Statement.{statement}
+use Rattle.layout.proofs.record.record_zero.Tie as tie
 
 u64-at-requires : tie.Need-u64-at-requires
 u64-at-requires c κs = search needs
@@ -18,7 +18,7 @@ u64-at-requires-4 c κs = search needs
 returns : tie.Need-returns
 returns c = rw (c .before .before .before .u64-at .ensures, c .before .before .u64-at2 .ensures, c .before .u64-at3 .ensures, c .u64-at4 .ensures)
 
-pub all-zero-spec : {M : Type 1} → statement M
-all-zero-spec =
+pub record-zero-spec : {M : Type 1} → statement M
+record-zero-spec =
     tie.close
     (tie.spec u64-at-requires u64-at-requires-2 u64-at-requires-3 u64-at-requires-4 returns)

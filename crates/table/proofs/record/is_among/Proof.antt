@@ -1,4 +1,4 @@
--- `record::tag_among` meets its contract. The loop keeps: the flag says whether the tag is among those passed.
+-- `record::is_among` meets its contract. The loop keeps: the flag says whether the tag is among those passed.
 use Prim.Native.Nat.{_-_, _≤_}
 use mathlib.Core.Path.{_≡_, refl, _∙_}
 use mathlib.Core.Logic.{⊎-elim}
@@ -6,8 +6,8 @@ use native.Mathlib.Omega.{arith}
 use lib.ListN.{take}
 use Rattle.kind.specs.Kind.{among}
 use Rattle.table.proofs.AmongLaws.{among-hit, among-miss}
-use Rattle.table.proofs.record.tag_among.Statement.{statement}
-use Rattle.table.proofs.record.tag_among.Tie as tie
+use Rattle.table.proofs.record.is_among.Statement.{statement}
+use Rattle.table.proofs.record.is_among.Tie as tie
 
 abbrev Inv-loop : tie.InvT-loop
 Inv-loop tags n tag found₀ i₀ found i = (i ≤ n) × (found ≡ among tag (take i tags))
@@ -45,8 +45,8 @@ returns c =
     let q : L .i ≡ c .before .before .args .n = omega arith in
     rw (← q) (L .inv .1)
 
-pub tag-among-spec : {M : Type 1} → statement M
-tag-among-spec =
+pub is-among-spec : {M : Type 1} → statement M
+is-among-spec =
     tie.close
     (tie.spec
     Inv-loop

@@ -1,11 +1,11 @@
--- `record::record_of` meets its contract, field by field.
+-- `record::decode_record` meets its contract, field by field.
 use native.Mathlib.Omega.{arith}
 use Rattle.layout.specs.Buffer.{byteAt}
 use Rattle.layout.specs.RecordLayout.{decodeRecord}
 use lib.Dec.{eqb}
 use borrow.Author.Needs.{needs}
-use Rattle.layout.proofs.record.record_of.Statement.{statement}
-use Rattle.layout.proofs.record.record_of.Tie as tie
+use Rattle.layout.proofs.record.decode_record.Statement.{statement}
+use Rattle.layout.proofs.record.decode_record.Tie as tie
 
 shared-slice-read-t3 : tie.Need-shared-slice-read-t3
 shared-slice-read-t3 c = omega arith
@@ -52,8 +52,8 @@ returns c =
       timer = record { last = c .before .u32-at4 .ensures i; elapsed = c .u64-at .ensures i };
     }
 
-pub record-of-spec : {M : Type 1} → statement M
-record-of-spec =
+pub decode-record-spec : {M : Type 1} → statement M
+decode-record-spec =
     tie.close
     (tie.spec
     shared-slice-read-t3

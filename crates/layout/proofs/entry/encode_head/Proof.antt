@@ -1,12 +1,12 @@
--- `entry::head_bytes` meets its contract: the array is the first 24 bytes of the definition, written out.
+-- `entry::encode_head` meets its contract: the array is the first 24 bytes of the definition, written out.
 use native.Mathlib.Omega.{arith}
 use mathlib.Core.List.{[], _∷_}
 use lib.ListN.{getD}
 use Rattle.words.specs.Word.{bytes}
 use Rattle.layout.specs.EntryLayout.{encodeEntry}
 use borrow.Author.Needs.{needs}
-use Rattle.layout.proofs.entry.head_bytes.Statement.{statement}
-use Rattle.layout.proofs.entry.head_bytes.Tie as tie
+use Rattle.layout.proofs.entry.encode_head.Statement.{statement}
+use Rattle.layout.proofs.entry.encode_head.Tie as tie
 
 u16-bytes-requires : tie.Need-u16-bytes-requires
 u16-bytes-requires c κs = search needs
@@ -98,8 +98,8 @@ returns c =
     ∷ getD clock 0 0 ∷ getD clock 1 0 ∷ getD clock 2 0 ∷ getD clock 3 0
     ∷ []
 
-pub head-bytes-spec : {M : Type 1} → statement M
-head-bytes-spec =
+pub encode-head-spec : {M : Type 1} → statement M
+encode-head-spec =
     tie.close
     (tie.spec
     u16-bytes-requires
