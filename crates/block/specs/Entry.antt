@@ -38,10 +38,12 @@ piecesFit n i [] = true
 piecesFit n i (p ∷ ps) = pieceFits n i p && piecesFit n (suc i) ps
 
 -- "piece count n, 0 to 4"; "reset never 2"
-unfoldable pub entryFits : Entry → Bool
-entryFits e =
+abbrev pub headFits : Entry → Bool
+headFits e =
     leb (e .count) 4
     && leb (e .«abort_reply») 2
     && leb (e .«reset_reply») 1
     && codeFits (e .«abort_reply») (e .«abort_code»)
-    && piecesFit (e .count) 0 (e .pieces)
+
+unfoldable pub entryFits : Entry → Bool
+entryFits e = headFits e && piecesFit (e .count) 0 (e .pieces)

@@ -12,7 +12,7 @@ use Rattle.words.specs.Word.{number, numberAt}
 use Rattle.words.proofs.WordLaws.{number-one, number-split, number-zero}
 use Rattle.block.specs.Record.{Dormant, freshRecord}
 use Rattle.block.specs.Sound.{zeroed, flagsFit, codeSound, requestSound, stepSound, timesSound, sound}
-use Rattle.block.specs.Entry.{codeFits, pieceForm, zeroPiece, pieceFits, piecesFit, entryFits}
+use Rattle.block.specs.Entry.{codeFits, headFits, pieceForm, zeroPiece, pieceFits, piecesFit, entryFits}
 use Rattle.block.specs.declared.record.Record.{Record}
 use Rattle.block.specs.declared.entry.Piece.{Piece}
 use Rattle.block.proofs.Tests.{each}
@@ -20,7 +20,7 @@ use Rattle.block.proofs.Shapes.{fresh-is}
 use Rattle.block.proofs.SoundSteps.{at-step, at-dormant}
 use Rattle.layout.specs.Buffer.{byteAt}
 use Rattle.layout.specs.RecordLayout.{flagsByte, flagsOf, decodeRecord, recordForm, soundBytes}
-use Rattle.layout.specs.EntryLayout.{decodePiece, decodeEntry, entryForm, headFits, entryBytes}
+use Rattle.layout.specs.EntryLayout.{decodePiece, decodeEntry, headForm, entryForm, entryBytes}
 use Rattle.layout.proofs.BitLaws.{flags-back}
 use Rattle.kind.proofs.Logic.{and-left, and-right, and-join}
 use Rattle.layout.proofs.RecordLaws.{form-bytes, sound-form, sound-record}
@@ -191,6 +191,9 @@ head-form s h = rw (pair-zero s 6 (omega arith)) (flat (ltb (byteAt s 0) 4) (eqb
     flat false b c = refl
 
 -- check 31 of an entry: its head, then each piece
+abbrev pub headTest : List ℕ → Bool
+headTest s = headForm s && headFits (decodeEntry s)
+
 abbrev pub pieceTest : List ℕ → ℕ → ℕ → Bool
 pieceTest s at i = eqb (byteAt s (at + 1)) 0 && pieceFits (byteAt s 1) i (decodePiece s at)
 
@@ -213,7 +216,7 @@ by-piece true true true true true true true true false t = refl
 by-piece true true true true true true true true true true = refl
 by-piece true true true true true true true true true false = refl
 
-entry-tests : (s : List ℕ) → entryBytes s ≡ headFits s && (pieceTest s 24 0 && pieceTest s 32 1 && pieceTest s 40 2 && pieceTest s 48 3)
+entry-tests : (s : List ℕ) → entryBytes s ≡ headTest s && (pieceTest s 24 0 && pieceTest s 32 1 && pieceTest s 40 2 && pieceTest s 48 3)
 unfolding entryBytes entryForm entryFits decodeEntry piecesFit
 entry-tests s =
     let n = byteAt s 1 in
@@ -224,8 +227,8 @@ entry-tests s =
     (eqb (byteAt s 41) 0) (pieceFits n 2 (decodePiece s 40))
     (eqb (byteAt s 49) 0) (pieceFits n 3 (decodePiece s 48))
 
-pub entry-head : (s : List ℕ) → headFits s ≡ false → false ≡ entryBytes s
+pub entry-head : (s : List ℕ) → headTest s ≡ false → false ≡ entryBytes s
 entry-head s h = sym (entry-tests s ∙ ap (λ (head : Bool). head && (pieceTest s 24 0 && pieceTest s 32 1 && pieceTest s 40 2 && pieceTest s 48 3)) h)
 
-pub entry-pieces : (s : List ℕ) → headFits s ≡ true → pieceTest s 24 0 && pieceTest s 32 1 && pieceTest s 40 2 && pieceTest s 48 3 ≡ entryBytes s
+pub entry-pieces : (s : List ℕ) → headTest s ≡ true → pieceTest s 24 0 && pieceTest s 32 1 && pieceTest s 40 2 && pieceTest s 48 3 ≡ entryBytes s
 entry-pieces s h = sym (entry-tests s ∙ ap (λ (head : Bool). head && (pieceTest s 24 0 && pieceTest s 32 1 && pieceTest s 40 2 && pieceTest s 48 3)) h)

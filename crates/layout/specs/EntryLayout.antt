@@ -2,10 +2,10 @@
 use Prim.Native.Nat.{ℕ, _+_, _*_}
 use mathlib.Core.Bool.{Bool, _&&_}
 use mathlib.Core.List.{List, [], _∷_, _++_}
-use lib.Dec.{eqb, ltb, leb}
+use lib.Dec.{eqb, ltb}
 use Rattle.words.specs.Word.{bytes, numberAt}
 use Rattle.block.specs.Record.{bit}
-use Rattle.block.specs.Entry.{codeFits, entryFits}
+use Rattle.block.specs.Entry.{entryFits}
 use Rattle.layout.specs.Buffer.{byteAt, jobWidth}
 use Rattle.layout.specs.RecordLayout.{bitOf}
 use Rattle.block.specs.declared.entry.Inputs.{Inputs}
@@ -57,22 +57,18 @@ decodeEntry s =
       pieces = decodePiece s 24 ∷ decodePiece s 32 ∷ decodePiece s 40 ∷ decodePiece s 48 ∷ [];
     }
 
--- "others zero"; the unnamed bytes are zero
+-- "others zero"; the unnamed bytes are zero, before the pieces
+abbrev pub headForm : List ℕ → Bool
+headForm s = ltb (byteAt s 0) 4 && eqb (byteAt s 6) 0 && eqb (byteAt s 7) 0
+
+-- and in each piece
 unfoldable pub entryForm : List ℕ → Bool
 entryForm s =
-    ltb (byteAt s 0) 4
-    && eqb (byteAt s 6) 0
-    && eqb (byteAt s 7) 0
+    headForm s
     && eqb (byteAt s 25) 0
     && eqb (byteAt s 33) 0
     && eqb (byteAt s 41) 0
     && eqb (byteAt s 49) 0
-
--- check 31 of what stands before the pieces: the unnamed bits and bytes, then the fields
-abbrev pub headFits : List ℕ → Bool
-headFits s =
-    ltb (byteAt s 0) 4 && eqb (byteAt s 6) 0 && eqb (byteAt s 7) 0
-    && (leb (byteAt s 1) 4 && leb (byteAt s 2) 2 && leb (byteAt s 3) 1 && codeFits (byteAt s 2) (numberAt 2 s 4))
 
 -- check 31 of one entry
 unfoldable pub entryBytes : List ℕ → Bool

@@ -8,9 +8,9 @@ ghost use mathlib.Core.List.{_++_};
 ghost use Prim.Native.Nat.{_+_, _≤_};
 ghost use lib.Dec.{eqb};
 ghost use lib.ListN.{length, take, drop};
-ghost use Rattle.block.specs.Entry.{pieceForm, pieceFits};
+ghost use Rattle.block.specs.Entry.{pieceForm, pieceFits, headFits};
 ghost use Rattle.layout.specs.Buffer.{byteAt, put};
-ghost use Rattle.layout.specs.EntryLayout.{inputsByte, decodeInputs, encodePiece, decodePiece, encodePieces, encodeEntry, decodeEntry, headFits, entryBytes};
+ghost use Rattle.layout.specs.EntryLayout.{inputsByte, decodeInputs, encodePiece, decodePiece, encodePieces, encodeEntry, decodeEntry, headForm, entryBytes};
 
 // Bytes of a frame entry, and of each of its four pieces, which stand after its head.
 pub const ENTRY_BYTES: usize = 56;
@@ -67,7 +67,7 @@ pub fn decode_entry(s: &[u8]) -> Entry
 // What stands before the pieces: the unnamed bytes and bits, then the fields.
 fn head_fits(s: &[u8]) -> bool
     requires { ⌜ 56 ≤ length (now s) ⌝ }
-    ensures { λ r. ⌜ r ≡ headFits (now (s .entry)) ⌝ }
+    ensures { λ r. ⌜ r ≡ headForm (now (s .entry)) && headFits (decodeEntry (now (s .entry))) ⌝ }
 {
     let form = (s[0] < 4) & (words::u16_at(s, 6) == 0);
     let replies = (s[1] <= 4) & (s[2] <= 2) & (s[3] <= 1);

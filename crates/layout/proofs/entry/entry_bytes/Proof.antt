@@ -2,8 +2,7 @@
 use mathlib.Core.Path.{_≡_, sym, _∙_}
 use mathlib.Core.Bool.{true, false}
 use borrow.Author.Tests.{not-true, not-false}
-use Rattle.layout.specs.EntryLayout.{headFits}
-use Rattle.layout.proofs.CheckLaws.{pieceTest, entry-head, entry-pieces}
+use Rattle.layout.proofs.CheckLaws.{headTest, pieceTest, entry-head, entry-pieces}
 use borrow.Author.Needs.{needs}
 use Rattle.layout.proofs.entry.entry_bytes.Statement.{statement}
 use Rattle.layout.proofs.entry.entry_bytes.Tie as tie
@@ -14,7 +13,7 @@ head-fits-requires c κs = search needs
 returns : tie.Need-returns
 returns c =
     let s = c .before .before .before .args .s .now in
-    let head : headFits s ≡ false = sym (c .before .head-fits .ensures) ∙ not-true _ (c .if1 .taken) in
+    let head : headTest s ≡ false = sym (c .before .head-fits .ensures) ∙ not-true _ (c .if1 .taken) in
     entry-head s head
 
 shared-slice-read-count : tie.Need-shared-slice-read-count
@@ -26,7 +25,7 @@ piece-fits-requires c κs = search needs
 returns-2 : tie.Need-returns-2
 returns-2 c =
     let s = c .before .before .before .before .before .before .args .s .now in
-    let head : headFits s ≡ true = sym (c .before .before .before .before .head-fits .ensures) ∙ not-false _ (c .before .before .before .if1 .left) in
+    let head : headTest s ≡ true = sym (c .before .before .before .before .head-fits .ensures) ∙ not-false _ (c .before .before .before .if1 .left) in
     let first : pieceTest s 24 0 ≡ false = sym (c .before .piece-fits .ensures) ∙ not-true _ (c .if2 .taken) in
     rw first at (entry-pieces s head)
 
@@ -36,7 +35,7 @@ piece-fits-requires-2 c κs = search needs
 returns-3 : tie.Need-returns-3
 returns-3 c =
     let s = c .before .before .before .before .before .before .before .before .args .s .now in
-    let head : headFits s ≡ true = sym (c .before .before .before .before .before .before .head-fits .ensures) ∙ not-false _ (c .before .before .before .before .before .if1 .left) in
+    let head : headTest s ≡ true = sym (c .before .before .before .before .before .before .head-fits .ensures) ∙ not-false _ (c .before .before .before .before .before .if1 .left) in
     let first : pieceTest s 24 0 ≡ true = sym (c .before .before .before .piece-fits .ensures) ∙ not-false _ (c .before .before .if2 .left) in
     let second : pieceTest s 32 1 ≡ false = sym (c .before .piece-fits2 .ensures) ∙ not-true _ (c .if3 .taken) in
     rw (first, second) at (entry-pieces s head)
@@ -47,7 +46,7 @@ piece-fits-requires-3 c κs = search needs
 returns-4 : tie.Need-returns-4
 returns-4 c =
     let s = c .before .before .before .before .before .before .before .before .before .before .args .s .now in
-    let head : headFits s ≡ true = sym (c .before .before .before .before .before .before .before .before .head-fits .ensures) ∙ not-false _ (c .before .before .before .before .before .before .before .if1 .left) in
+    let head : headTest s ≡ true = sym (c .before .before .before .before .before .before .before .before .head-fits .ensures) ∙ not-false _ (c .before .before .before .before .before .before .before .if1 .left) in
     let first : pieceTest s 24 0 ≡ true = sym (c .before .before .before .before .before .piece-fits .ensures) ∙ not-false _ (c .before .before .before .before .if2 .left) in
     let second : pieceTest s 32 1 ≡ true = sym (c .before .before .before .piece-fits2 .ensures) ∙ not-false _ (c .before .before .if3 .left) in
     let third : pieceTest s 40 2 ≡ false = sym (c .before .piece-fits3 .ensures) ∙ not-true _ (c .if4 .taken) in
@@ -59,7 +58,7 @@ piece-fits-requires-4 c κs = search needs
 returns-5 : tie.Need-returns-5
 returns-5 c =
     let s = c .before .before .before .before .before .before .before .before .before .before .before .args .s .now in
-    let head : headFits s ≡ true = sym (c .before .before .before .before .before .before .before .before .before .head-fits .ensures) ∙ not-false _ (c .before .before .before .before .before .before .before .before .if1 .left) in
+    let head : headTest s ≡ true = sym (c .before .before .before .before .before .before .before .before .before .head-fits .ensures) ∙ not-false _ (c .before .before .before .before .before .before .before .before .if1 .left) in
     let first : pieceTest s 24 0 ≡ true = sym (c .before .before .before .before .before .before .piece-fits .ensures) ∙ not-false _ (c .before .before .before .before .before .if2 .left) in
     let second : pieceTest s 32 1 ≡ true = sym (c .before .before .before .before .piece-fits2 .ensures) ∙ not-false _ (c .before .before .before .if3 .left) in
     let third : pieceTest s 40 2 ≡ true = sym (c .before .before .piece-fits3 .ensures) ∙ not-false _ (c .before .if4 .left) in

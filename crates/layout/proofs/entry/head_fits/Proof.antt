@@ -6,6 +6,7 @@ use native.Mathlib.Omega.{arith}
 use lib.Dec.{eqb, ltb, leb}
 use Rattle.block.specs.Entry.{codeFits}
 use Rattle.layout.specs.Buffer.{byteAt}
+use Rattle.layout.specs.EntryLayout.{decodeEntry}
 use Rattle.layout.proofs.CheckLaws.{head-form}
 use borrow.Author.Needs.{needs}
 use Rattle.layout.proofs.entry.head_fits.Statement.{statement}
@@ -36,6 +37,7 @@ code-fits-requires : tie.Need-code-fits-requires
 code-fits-requires c κs = search needs
 
 returns : tie.Need-returns
+unfolding decodeEntry
 returns c =
     let s = c .before .before .before .before .before .before .before .before .before .args .s .now in
     let unnamed = ap (λ (n : ℕ). ltb (byteAt s 0) 4 && eqb n 0) (c .before .before .before .before .before .before .u16-at .ensures) ∙ head-form s (omega arith) in
