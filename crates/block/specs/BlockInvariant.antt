@@ -24,7 +24,7 @@ abbrev pub seenCall : ℕ → Inputs → Entry → Record → Seen
 seenCall k i e r =
     record { before = r; inputs = i; entry = e; passes = callOf k i e r .passes; used = callOf k i e r .used; events = callOf k i e r .events; after = callOf k i e r .next }
 
--- a history that the machine made for a block of one of the fourteen kinds, fed any inputs and any entries in form
+-- a history that the machine made for a block of one of the fourteen kinds, fed any inputs and any entries in form whose clock is a reading
 pub data Made (k : ℕ) : History → Type 0 where
   noCall : isKind k ≡ true → Made k fresh
   andCall : {h : History} → Made k h → (i : Inputs) (e : Entry) → entryFits e ≡ true → e .clock < 4294967296 → Made k (h then seenCall k i e (recordAfter h))

@@ -18,7 +18,7 @@ outcomeOf a = record { next = a .next; events = take (a .count) (a .first ∷ a 
 abbrev pub noPass : Record → CallResult
 noPass r = record { next = r; first = noEvent; second = noEvent; count = 0; used = 0; passes = 0 }
 
--- one pass more: an event goes to the first place that is free
+-- one pass more: its event, if any, is the first, or else the second
 unfoldable pub withPass : CallResult → Pass → CallResult
 withPass a p =
     cond (eqb (p .event .kind) 0)

@@ -51,7 +51,7 @@ impl CallResult {
         }
     }
 
-    // One pass more; each result is written out, since a change in place keeps the whole account in memory.
+    // One pass more. Each result is built anew, not changed in place: docs/PERFORMANCE.md says why.
     fn add(self, p: Pass) -> CallResult
         requires { ⌜ (self .used + p .used < 256) × (self .passes < 255) ⌝ }
         ensures { λ a. ⌜ a ≡ withPass self p ⌝ }

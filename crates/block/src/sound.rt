@@ -1,6 +1,7 @@
 // Check 21: which records are sound for a kind, by the step.
 use crate::record::Flags;
 use crate::record::Record;
+use clock::Timer;
 ghost use mathlib.Core.Path.{_≡_};
 ghost use Rattle.block.specs.Record.{Executing, Done, Error, Aborted, Resetting, atStep};
 ghost use Rattle.block.specs.Sound.{only, zeroed, timesSound, sound};
@@ -25,11 +26,11 @@ fn zeroed(r: Record) -> bool
         & (r.timer.elapsed == 0)
 }
 
-// No stored time is sound on every kind.
+// Elapsed within its bound, and a stored time only on the kinds that take it.
 fn times_sound(kind: u8, r: Record) -> bool
     ensures { λ b. ⌜ b ≡ timesSound kind r ⌝ }
 {
-    let elapsed = r.timer.elapsed <= 4294967296;
+    let elapsed = r.timer.elapsed <= Timer::MOST;
     if (r.limit == 0) & (r.timeout == 0) {
         return elapsed;
     }

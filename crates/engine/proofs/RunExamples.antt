@@ -1,4 +1,5 @@
--- The list of scans of specs/RunExamples.antt, computed from the bytes of the table, the lent buffer and the frames.
+-- The list of scans of specs/RunExamples.antt, computed from the bytes of the table, the lent buffer and the frames: for the reader, so that the run
+-- promise is seen not to be empty.
 use mathlib.Core.Path.{refl}
 use Rattle.kind.specs.Kind.{isKind, isEdge, hasAbort, hasTimeLimit, hasTimeOut, isContinuous}
 use Rattle.clock.specs.Clock.{since, tick, past, pastLimit, pastTimeOut}

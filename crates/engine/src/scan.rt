@@ -14,7 +14,7 @@ ghost use Rattle.engine.specs.Serve.{servedTo};
 ghost use Rattle.engine.specs.Scan.{scanBlocks, scanOf};
 ghost use Rattle.engine.specs.ScanAccepted.{StateFits, GivenFits};
 
-// Every block, called once, in chain order; the number of events.
+// Every block served once, in chain order; the number of events.
 fn serve_all(
     image: &[u8],
     slots: &[u8; 64],

@@ -110,7 +110,7 @@ put-front a n xs v ys full e =
     let none : drop (length xs - a) (drop a xs) ≡ [] = drop-of-length-le (drop a xs) {i = length xs - a} (simp length-drop (omega arith)) in
     rw (e, whole, none, append-nil, drop-drop, full)
 
--- a buffer filled from the front to place p, and n bytes more put there: by a callee that was lent the whole buffer, or the part from p on
+-- a buffer filled from the front to place p, and n bytes more put there
 pub fill-whole : (p n : ℕ) (done chunk buf₀ buf ys : List ℕ) → length done ≡ p → length chunk ≡ n → buf ≡ done ++ drop p buf₀
     → ys ≡ put p chunk buf → ys ≡ (done ++ chunk) ++ drop (p + n) buf₀
 fill-whole p n done chunk buf₀ buf ys l full e h =

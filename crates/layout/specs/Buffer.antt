@@ -30,6 +30,6 @@ byteAt s i = getD s i 0
 abbrev pub part : ℕ → ℕ → List ℕ → List ℕ
 part size i s = take size (drop (size * i) s)
 
--- the buffer with the bytes v from a place on
+-- the buffer with the bytes v from a place on, where they fit
 abbrev pub put : ℕ → List ℕ → List ℕ → List ℕ
 put at v s = take at s ++ (v ++ drop (at + length v) s)

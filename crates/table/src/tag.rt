@@ -12,7 +12,7 @@ use crate::image::slot_start;
 fn tag_char(b: u8) -> bool
     ensures { λ r. ⌜ r ≡ tagChar b ⌝ }
 {
-    ((65 <= b) & (b <= 90)) | ((48 <= b) & (b <= 57))
+    ((b'A' <= b) & (b <= b'Z')) | ((b'0' <= b) & (b <= b'9'))
 }
 
 // Whether all bytes from an index on are spaces.

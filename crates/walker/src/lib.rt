@@ -1,5 +1,5 @@
 // The chain's walker: the image and the current slot. Slot 0 stands for the header, which names the head.
-// The borrow checker covers `next_slot`, which does the work, and each caller of `slot_after`; `next` and `slot_after` are proved by hand.
+// `next_slot` does the work; `next` takes the walker apart for it, and `slot_after` makes one.
 ghost use mathlib.Core.Path.{_≡_};
 ghost use Rattle.walker.specs.Next.{nextSlot, Reaches};
 

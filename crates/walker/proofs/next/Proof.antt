@@ -1,4 +1,4 @@
--- `next` meets its contract: a walk of its MIR, by hand. The walker is taken apart, and `next_slot` is called on the image and the slot.
+-- `next` meets its contract: step by step. The walker is taken apart, and `next_slot` is called on the image and the slot.
 -- The walker is Copy: what it owns is had twice. One copy is kept whole for the exit; of the other what the image owns goes to the callee, beside the lifetime's token, which comes back.
 use mathlib.Core.Path.{_≡_, refl}
 use Prim.Native.Nat.{ℕ, _<_, _^_}

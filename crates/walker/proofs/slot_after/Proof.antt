@@ -1,4 +1,4 @@
--- `slot_after` meets its contract: a walk of its MIR, by hand. A walker is made in a local, of the image and the slot, and passed to `next`.
+-- `slot_after` meets its contract: step by step. A walker is made in a local, of the image and the slot, and passed to `next`.
 use mathlib.Core.Path.{_≡_, refl}
 use Prim.Native.Nat.{ℕ, _<_, _^_}
 use mathlib.Core.List.{List, [], _∷_}
