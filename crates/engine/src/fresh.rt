@@ -35,8 +35,9 @@ pub fn fresh(image: &[u8], state: &mut [u8]) -> Freshened
     ensures answer { λ r. ⌜ r ≡ freshOf (now (image .entry)) (now (state .entry)) .answer ⌝ }
     ensures state { λ _. ⌜ now (state .exit) ≡ freshOf (now (image .entry)) (now (state .entry)) .state ⌝ }
 {
-    let table = check_table(image);
-    let answer = table.answer;
+    let mut slots = [0u8; 64];
+    let mut positions = [0u8; 65];
+    let answer = check_table(image, &mut slots, &mut positions);
     let Checked::Blocks(count) = answer else {
         return table_refusal(answer);
     };

@@ -115,15 +115,12 @@ pub fn scan(
     ensures report { λ _. ⌜ now (report .exit) ≡ scanOf (now (image .entry)) (now (state .entry)) (now (frame .entry)) (now (report .entry)) (now (journal .entry)) .report ⌝ }
     ensures journal { λ _. ⌜ now (journal .exit) ≡ scanOf (now (image .entry)) (now (state .entry)) (now (frame .entry)) (now (report .entry)) (now (journal .entry)) .journal ⌝ }
 {
-    let table = check_table(image);
-    let answer = table.answer;
-    let Checked::Blocks(_) = answer else {
+    let mut slots = [0u8; 64];
+    let mut positions = [0u8; 65];
+    let answer = check_table(image, &mut slots, &mut positions);
+    let Checked::Blocks(count) = answer else {
         return table_refusal(answer);
     };
-    let chain = table.chain;
-    let slots = chain.slots;
-    let positions = chain.positions;
-    let count = chain.count;
     scan_blocks(
         image,
         &slots,

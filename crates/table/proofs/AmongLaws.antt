@@ -53,16 +53,6 @@ among-at [] i h = absurd (omega arith)
 among-at (x ∷ xs) zero h = simp (eq-eqb x x refl)
 among-at (x ∷ xs) (suc i) h = by-test (eqb x (getD xs i 0)) (λ e. simp e) (λ e. simp (e, among-at xs i (omega arith)))
 
--- the first i + 1 of a list, by the first i and element i
-among-more : (x : ℕ) (xs : List ℕ) (i : ℕ) → i < length xs → among x (take (i + 1) xs) ≡ (among x (take i xs) || eqb (getD xs i 0) x)
-among-more x xs i h = rw (add-one, take-suc xs i 0 h) (among-snoc x (take i xs) (getD xs i 0))
-
-pub among-hit : (x : ℕ) (xs : List ℕ) (i : ℕ) → i < length xs → getD xs i 0 ≡ x → true ≡ among x (take (i + 1) xs)
-among-hit x xs i h e = sym (among-more x xs i h ∙ by-test (among x (take i xs)) (λ m. simp m) (λ m. simp (m, eq-eqb _ _ e)))
-
-pub among-miss : (x : ℕ) (xs : List ℕ) (i : ℕ) → i < length xs → (getD xs i 0 ≡ x → ⊥) → among x (take i xs) ≡ among x (take (i + 1) xs)
-among-miss x xs i h e = sym (among-more x xs i h ∙ by-test (among x (take i xs)) (λ m. simp m) (λ m. simp (m, ne-eqb _ _ e)))
-
 -- every element is of 1 to n
 abbrev pub AllIn : ℕ → List ℕ → Type 0
 AllIn n [] = Unit {0}

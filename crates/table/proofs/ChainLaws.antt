@@ -20,6 +20,7 @@ use Rattle.table.specs.declared.place.Place.the-variants.{Header, Slot}
 use Rattle.table.specs.declared.place.Verdict.{Verdict}
 use Rattle.table.specs.declared.place.Verdict.the-variants.{Passed, Failed}
 use Rattle.kind.proofs.Logic.{by-test}
+use Rattle.table.proofs.Logic.{not-failed}
 use Rattle.table.proofs.AmongLaws.{position-snoc, position-zero, position-some, position-test, among-at, AllIn, all-snoc, all-at}
 use Rattle.table.proofs.Walk.{unmet-nil, unmet-more, walk-ends, walk-above, walk-again, walk-onward}
 
@@ -28,14 +29,10 @@ zero-at zero k = refl
 zero-at (suc n) zero = refl
 zero-at (suc n) (suc k) = zero-at n k
 
-pub empty-chain : Holds [] 0 (replicate 64 0) (replicate 65 0)
+-- positions of no slots, for a walk to begin with
+pub no-slots : Placed [] (replicate 65 0)
 unfolding positionFrom
-empty-chain = record {
-  listed = refl;
-  counted = refl;
-  few = omega arith;
-  places = record { sized = refl; placed = λ k. zero-at 65 k };
-}
+no-slots = record { sized = refl; placed = λ k. zero-at 65 k }
 
 -- the code's test of a slot is the chain's
 pub on-chain-is : (chain positions : List ℕ) (slot : ℕ) (b : Bool) → Placed chain positions
@@ -70,15 +67,15 @@ pub record Walking (image slots positions : List ℕ) (count : ℕ) (from : Plac
   pub places : Placed (take count slots) positions
   pub onward : walkFrom image (take count slots) from at ≡ walked image
 
-pub walking-start : (image slots positions : List ℕ) → slots ≡ replicate 64 0 → positions ≡ replicate 65 0 → headSlot image < 256
+pub walking-start : (image slots positions : List ℕ) → length slots ≡ 64 → Placed [] positions → headSlot image < 256
     → Walking image slots positions 0 Header (headSlot image)
-unfolding walked positionFrom
+unfolding walked
 walking-start image slots positions e f h = record {
-  sized = rw e refl;
+  sized = e;
   byte = h;
   few = omega arith;
   room = omega (arith, unmet-nil (slotCount image));
-  places = record { sized = rw f refl; placed = λ k. rw f (zero-at 65 k) };
+  places = f;
   onward = refl;
 }
 
@@ -128,12 +125,12 @@ module _ (image slots positions : List ℕ) (count : ℕ) (from : Place) (at : �
         onward = rw t (sym (walk-onward image (take count slots) from at (omega arith) h u) ∙ w .onward);
       }
 
--- a walk that stopped has no chain
+-- a walk that stopped: its arrays hold no chain
 pub stopped-walk : (image : List ℕ) (number : ℕ) (place : Place) (v : Verdict) (count : ℕ) (slots positions : List ℕ)
-    → Stopped number place ≡ walked image → v ≡ Failed number place → Holds [] count slots positions
-    → (v ≡ chainVerdict (walked image)) × Holds (chainOf image) count slots positions
-stopped-walk image number place v count slots positions e f h =
-    (f ∙ ap chainVerdict e, subst (λ (l : List ℕ). Holds l count slots positions) (ap slotsOf e) h)
+    → Stopped number place ≡ walked image → v ≡ Failed number place
+    → (v ≡ chainVerdict (walked image)) × (v ≡ Passed → Holds (chainOf image) count slots positions)
+stopped-walk image number place v count slots positions e f =
+    (f ∙ ap chainVerdict e, λ g. not-failed v number place f g)
 
 -- every chain is of slots 1 to N
 walk-in : (left : ℕ) (image met : List ℕ) (from : Place) (at : ℕ) → AllIn (slotCount image) met → AllIn (slotCount image) (slotsOf (walkIn left image met from at))

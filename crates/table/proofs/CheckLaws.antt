@@ -1,6 +1,6 @@
 -- Laws of the whole check: how the verdicts of its groups make the answer. For the proof of check::check_table and for AcceptedLaws.
 use Prim.Native.Nat.{ℕ, _+_, _*_}
-use mathlib.Core.Path.{_≡_, refl, ap, sym, _∙_}
+use mathlib.Core.Path.{_≡_, refl, ap, sym, _∙_, subst}
 use mathlib.Core.List.{List}
 use mathlib.Core.Bool.{_&&_}
 use native.Mathlib.Omega.{arith}
@@ -52,38 +52,38 @@ blocks-by Passed m n e = cc
 blocks-by (Failed number place) m n e = let z : _≡_ {A = ℕ} 0 1 = cc in absurd (omega arith)
 
 -- what check_table promises of an answer and the chain it holds
-abbrev Answers : List ℕ → Checked → ℕ → List ℕ → List ℕ → Type 0
-Answers image answer count slots positions = (answer ≡ checkOf image) × ((n : ℕ) → answer ≡ Blocks n → Accepted image count slots positions)
+abbrev Answers : List ℕ → Checked → List ℕ → List ℕ → Type 0
+Answers image answer slots positions = (answer ≡ checkOf image) × ((n : ℕ) → answer ≡ Blocks n → Accepted image n slots positions)
 
-module _ (image : List ℕ) (answer : Checked) (count : ℕ) (slots positions : List ℕ) (v : Verdict) (blocks : ℕ) (says : answer ≡ checkedAs v blocks) where
+module _ (image : List ℕ) (answer : Checked) (slots positions : List ℕ) (v : Verdict) (blocks : ℕ) (says : answer ≡ checkedAs v blocks) where
   -- a group of checks that fails
-  refused : (number : ℕ) (place : Place) → v ≡ Failed number place → verdictOf image ≡ v → Answers image answer count slots positions
+  refused : (number : ℕ) (place : Place) → v ≡ Failed number place → verdictOf image ≡ v → Answers image answer slots positions
   unfolding checkOf
   refused number place e f =
       let a : answer ≡ Refused number place = says ∙ ap (λ (w : Verdict). checkedAs w blocks) e in
       let b : Refused number place ≡ checkOf image = ap (λ (w : Verdict). checkedAs w (length (chainOf image))) (sym (f ∙ e)) in
       (a ∙ b, λ n g. let z : _≡_ {A = ℕ} 0 1 = cc in absurd (omega arith))
 
-  pub header-refused : (number : ℕ) (place : Place) → v ≡ Failed number place → v ≡ headerCheck image → Answers image answer count slots positions
+  pub header-refused : (number : ℕ) (place : Place) → v ≡ Failed number place → v ≡ headerCheck image → Answers image answer slots positions
   unfolding verdictOf
   header-refused number place e h = refused number place e (rw (sym h ∙ e) (sym e))
 
   pub chain-refused : (number : ℕ) (place : Place) → v ≡ Failed number place → headerCheck image ≡ Passed → v ≡ chainVerdict (walked image)
-      → Answers image answer count slots positions
+      → Answers image answer slots positions
   unfolding verdictOf
   chain-refused number place e h w = refused number place e (rw (h, sym w ∙ e) (sym e))
 
   pub records-refused : (number : ℕ) (place : Place) → v ≡ Failed number place → headerCheck image ≡ Passed → chainVerdict (walked image) ≡ Passed
-      → v ≡ recordsCheck image → Answers image answer count slots positions
+      → v ≡ recordsCheck image → Answers image answer slots positions
   unfolding verdictOf
   records-refused number place e h w r = refused number place e (rw (h, w, sym r ∙ e) (sym e))
 
 -- only the spare slots are left
 pub spares-answer : (image : List ℕ) (answer : Checked) (count : ℕ) (slots positions : List ℕ) (v : Verdict) → answer ≡ checkedAs v count
     → headerCheck image ≡ Passed → chainVerdict (walked image) ≡ Passed → recordsCheck image ≡ Passed → v ≡ sparesCheck image
-    → Holds (chainOf image) count slots positions → Answers image answer count slots positions
+    → Holds (chainOf image) count slots positions → Answers image answer slots positions
 unfolding verdictOf checkOf
 spares-answer image answer count slots positions v says h w r s held =
     let f : verdictOf image ≡ v = rw (h, w, r) (sym s) in
     let a : answer ≡ checkOf image = says ∙ cc (held .counted) in
-    (a, λ n g. record { answer = sym a ∙ (g ∙ ap Blocks (sym (blocks-by v count n (sym says ∙ g)))); chain = held })
+    (a, λ n g. record { answer = sym a ∙ g; chain = subst (λ (k : ℕ). Holds (chainOf image) k slots positions) (blocks-by v count n (sym says ∙ g)) held })

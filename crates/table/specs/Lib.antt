@@ -5,6 +5,7 @@ pub mod Tag
 pub mod Walk
 pub mod Chain
 pub mod Record
+pub mod Marks
 pub mod Spare
 pub mod Check
 pub mod Lookup

@@ -6,61 +6,40 @@ ghost use lib.Dec.{eqb};
 ghost use lib.ListN.{length, getD};
 ghost use Rattle.table.specs.Header.{Headed};
 ghost use Rattle.table.specs.Walk.{walked};
-ghost use Rattle.table.specs.Chain.{chainOf, chainVerdict, Holds};
+ghost use Rattle.table.specs.Chain.{chainOf, chainVerdict, Placed, Holds};
 use crate::place::Place;
 use crate::place::Verdict;
 use walker::slot_after;
 
-// The first `count` of `slots` are the chain's slots, in order; `positions` has the position of each slot, 0 off the chain.
-pub struct Chain {
-    pub count: usize,
-    pub slots: [u8; 64],
-    pub positions: [u8; 65],
-}
-
+// What a walk finds, and the number of slots met.
 pub struct ChainWalk {
     pub verdict: Verdict,
-    pub chain: Chain,
+    pub count: usize,
 }
 
-// The chain of no blocks.
-pub fn no_chain() -> Chain
-    ensures { λ r. ⌜ Holds [] (r .count) (r .slots) (r .positions) ⌝ }
-{
-    Chain {
-        count: 0,
-        slots: [0u8; 64],
-        positions: [0u8; 65],
-    }
-}
-
-// A walk that a check stops.
-fn stopped(number: u8, from: Place) -> ChainWalk
-    ensures { λ r. ⌜ (r .verdict ≡ Verdict.Failed number from) × Holds [] (r .chain .count) (r .chain .slots) (r .chain .positions) ⌝ }
-{
-    ChainWalk {
-        verdict: Verdict::Failed(number, from),
-        chain: no_chain(),
-    }
-}
-
-pub fn walk(image: &[u8]) -> ChainWalk
+// The first `count` of `slots` become the chain's slots, in order, and `positions` has the position of each slot, 0 off the chain.
+pub fn walk(image: &[u8], slots: &mut [u8; 64], positions: &mut [u8; 65]) -> ChainWalk
     requires { ⌜ Headed (now image) ⌝ }
-    ensures { λ r. ⌜ (r .verdict ≡ chainVerdict (walked (now (image .entry)))) × Holds (chainOf (now (image .entry))) (r .chain .count) (r .chain .slots) (r .chain .positions) ⌝ }
+    requires { ⌜ (length (now slots) ≡ 64) × Placed [] (now positions) ⌝ }
+    ensures { λ r. ⌜ (r .verdict ≡ chainVerdict (walked (now (image .entry)))) × (r .verdict ≡ Verdict.Passed → Holds (chainOf (now (image .entry))) (r .count) (now (slots .exit)) (now (positions .exit))) ⌝ }
 {
-    let mut slots = [0u8; 64];
-    let mut positions = [0u8; 65];
     let mut count: usize = 0;
     let mut from = Place::Header;
     let n = image[1];
     let mut at = slot_after(image, 0);
     while at != 0 {
         if n < at {
-            return stopped(5, from);
+            return ChainWalk {
+                verdict: Verdict::Failed(5, from),
+                count: 0,
+            };
         }
         let i = at as usize;
         if positions[i] != 0 {
-            return stopped(6, from);
+            return ChainWalk {
+                verdict: Verdict::Failed(6, from),
+                count: 0,
+            };
         }
         slots[count] = at;
         count += 1;
@@ -70,11 +49,7 @@ pub fn walk(image: &[u8]) -> ChainWalk
     }
     ChainWalk {
         verdict: Verdict::Passed,
-        chain: Chain {
-            count,
-            slots,
-            positions,
-        },
+        count,
     }
 }
 

@@ -1,9 +1,10 @@
 // The table checks, 1 to 11.
 ghost use mathlib.Core.Path.{_≡_};
+ghost use mathlib.Core.List.{[]};
 ghost use Prim.Native.Nat.{ℕ};
+ghost use lib.ListN.{length};
+ghost use Rattle.table.specs.Chain.{Placed};
 ghost use Rattle.table.specs.Check.{checkedAs, checkOf, Accepted};
-use crate::chain::Chain;
-use crate::chain::no_chain;
 use crate::chain::walk;
 use crate::header::check_header;
 use crate::place::Place;
@@ -17,57 +18,44 @@ pub enum Checked {
     Refused(u8, Place),
 }
 
-// The answer, with the chain of an accepted table.
-pub struct Table {
-    pub answer: Checked,
-    pub chain: Chain,
-}
-
-// The answer by a verdict: the blocks of the chain, or the refusal, unchanged.
-fn answered(verdict: Verdict, chain: Chain) -> Table
-    ensures { λ r. ⌜ (r .answer ≡ checkedAs verdict (chain .count)) × (r .chain ≡ chain) ⌝ }
+// The answer by a verdict: the number of blocks, or the refusal, unchanged.
+fn answered(verdict: Verdict, count: usize) -> Checked
+    ensures { λ r. ⌜ r ≡ checkedAs verdict count ⌝ }
 {
     match verdict {
-        Verdict::Passed => Table {
-            answer: Checked::Blocks(chain.count),
-            chain,
-        },
-        Verdict::Failed(number, place) => Table {
-            answer: Checked::Refused(number, place),
-            chain,
-        },
+        Verdict::Passed => Checked::Blocks(count),
+        Verdict::Failed(number, place) => Checked::Refused(number, place),
     }
 }
 
-// All checks, and the chain for the layers above.
-pub fn check_table(image: &[u8]) -> Table
-    ensures { λ r. ⌜ (r .answer ≡ checkOf (now (image .entry))) × ((n : ℕ) → r .answer ≡ Checked.Blocks n → Accepted (now (image .entry)) (r .chain .count) (r .chain .slots) (r .chain .positions)) ⌝ }
+// All checks; the chain of an accepted table is left in the two arrays, for the layers above.
+pub fn check_table(image: &[u8], slots: &mut [u8; 64], positions: &mut [u8; 65]) -> Checked
+    requires { ⌜ (length (now slots) ≡ 64) × Placed [] (now positions) ⌝ }
+    ensures { λ r. ⌜ (r ≡ checkOf (now (image .entry))) × ((n : ℕ) → r ≡ Checked.Blocks n → Accepted (now (image .entry)) n (now (slots .exit)) (now (positions .exit))) ⌝ }
 {
     let header = check_header(image);
     let Verdict::Passed = header else {
-        return answered(header, no_chain());
+        return answered(header, 0);
     };
-    let walked = walk(image);
+    let walked = walk(image, slots, positions);
     let verdict = walked.verdict;
-    let chain = walked.chain;
+    let count = walked.count;
     let Verdict::Passed = verdict else {
-        return answered(verdict, chain);
+        return answered(verdict, count);
     };
-    let count = chain.count;
-    let slots = chain.slots;
-    let positions = chain.positions;
-    let records = check_records(image, &slots, &positions, count);
+    let records = check_records(image, slots, positions, count);
     let Verdict::Passed = records else {
-        return answered(records, chain);
+        return answered(records, count);
     };
-    let spares = check_spares(image, &positions);
-    answered(spares, chain)
+    let spares = check_spares(image, positions);
+    answered(spares, count)
 }
 
 // The number of blocks of an accepted table, or the first check that fails.
 pub fn check(image: &[u8]) -> Checked
     ensures { λ r. ⌜ r ≡ checkOf (now (image .entry)) ⌝ }
 {
-    let table = check_table(image);
-    table.answer
+    let mut slots = [0u8; 64];
+    let mut positions = [0u8; 65];
+    check_table(image, &mut slots, &mut positions)
 }

@@ -61,9 +61,10 @@ fn table_refusal(answer: Checked) -> Found
 fn locate(image: &[u8], tag: &[u8]) -> Located
     ensures { λ r. ⌜ (r .found ≡ findOf (now (image .entry)) (now (tag .entry))) × FoundSlot (now (image .entry)) (r .found) (r .slot) ⌝ }
 {
-    let table = check_table(image);
-    let answer = table.answer;
-    let Checked::Blocks(_) = answer else {
+    let mut slots = [0u8; 64];
+    let mut positions = [0u8; 65];
+    let answer = check_table(image, &mut slots, &mut positions);
+    let Checked::Blocks(count) = answer else {
         return Located {
             found: table_refusal(answer),
             slot: 0,
@@ -75,10 +76,6 @@ fn locate(image: &[u8], tag: &[u8]) -> Located
             slot: 0,
         };
     }
-    let chain = table.chain;
-    let slots = chain.slots;
-    let positions = chain.positions;
-    let count = chain.count;
     let position = tag_position(image, tag, &slots, &positions, count);
     if position == 0 {
         return Located {

@@ -1,12 +1,13 @@
 // Checks 7 to 10: the records, in chain order.
 ghost use mathlib.Core.Path.{_≡_};
 ghost use Prim.Native.Nat.{_+_, _<_, _≤_};
-ghost use lib.ListN.{length, take};
-ghost use Rattle.kind.specs.Kind.{among};
-ghost use Rattle.table.specs.Image.{wireSlot, wireCode, HasSlot};
+ghost use lib.ListN.{take};
+ghost use mathlib.Core.Bool.{false};
+ghost use Rattle.table.specs.Image.{wireSlot, wireCode, tagOf, HasSlot};
 ghost use Rattle.table.specs.Header.{Headed};
 ghost use Rattle.table.specs.Chain.{chainOf, Placed, Holds};
-ghost use Rattle.table.specs.Record.{kindOk, wireOk, abortOk, recordCheck, recordsCheck};
+ghost use Rattle.table.specs.Record.{kindOk, wireOk, abortOk, tagAmong, recordCheck, recordsCheck};
+ghost use Rattle.table.specs.Marks.{markPlace};
 use crate::chain::on_chain;
 use crate::image::ABORT_WIRE;
 use crate::image::KIND;
@@ -77,15 +78,33 @@ fn check_record(image: &[u8], positions: &[u8; 65], repeated: bool, slot: u8) ->
     Verdict::Passed
 }
 
-// Whether a tag is among the first n.
-fn is_among(tags: &[u64; 64], n: usize, tag: u64) -> bool
-    requires { ⌜ (n ≤ 64) × (length (now tags) ≡ 64) ⌝ }
-    ensures { λ r. ⌜ r ≡ among tag (take n (now (tags .entry))) ⌝ }
+// Where a tag is marked.
+fn mark_place(tag: u64) -> usize
+    ensures { λ r. ⌜ r ≡ markPlace tag ⌝ }
+    ensures { λ r. ⌜ r < 128 ⌝ }
 {
+    let folded = (tag % 4294967296 + tag / 4294967296) % 4294967296;
+    (folded * 2654435769 / 33554432 % 128) as usize
+}
+
+// Whether a slot's tag is that of one of the first n blocks.
+fn is_among(
+    image: &[u8],
+    slots: &[u8; 64],
+    positions: &[u8; 65],
+    count: usize,
+    n: usize,
+    slot: u8,
+) -> bool
+    requires { ⌜ Headed (now image) × HasSlot (now image) slot × (n ≤ count) ⌝ }
+    requires { ⌜ Holds (chainOf (now image)) count (now slots) (now positions) ⌝ }
+    ensures { λ r. ⌜ r ≡ tagAmong (now (image .entry)) (tagOf (now (image .entry)) slot) (take n (chainOf (now (image .entry)))) ⌝ }
+{
+    let tag = tag_number(image, slot);
     let mut found = false;
     let mut i: usize = 0;
     while i < n {
-        if tags[i] == tag {
+        if tag_number(image, slots[i]) == tag {
             found = true;
         }
         i += 1;
@@ -93,23 +112,44 @@ fn is_among(tags: &[u64; 64], n: usize, tag: u64) -> bool
     found
 }
 
-// Checks 7 to 10 of every record, each through all four before the next.
+// The same, where no mark of the tag's place says that it is not.
+fn is_repeated(
+    image: &[u8],
+    slots: &[u8; 64],
+    positions: &[u8; 65],
+    count: usize,
+    n: usize,
+    slot: u8,
+    mark: u8,
+) -> bool
+    requires { ⌜ Headed (now image) × HasSlot (now image) slot × (n ≤ count) ⌝ }
+    requires { ⌜ Holds (chainOf (now image)) count (now slots) (now positions) ⌝ }
+    requires { ⌜ (mark ≡ 0 → tagAmong (now image) (tagOf (now image) slot) (take n (chainOf (now image))) ≡ false) ⌝ }
+    ensures { λ r. ⌜ r ≡ tagAmong (now (image .entry)) (tagOf (now (image .entry)) slot) (take n (chainOf (now (image .entry)))) ⌝ }
+{
+    if mark == 0 {
+        return false;
+    }
+    is_among(image, slots, positions, count, n, slot)
+}
+
+// Checks 7 to 10 of every record, each through all four before the next. A tag that was met has a mark in its place.
 pub fn check_records(image: &[u8], slots: &[u8; 64], positions: &[u8; 65], count: usize) -> Verdict
     requires { ⌜ Headed (now image) ⌝ }
     requires { ⌜ Holds (chainOf (now image)) count (now slots) (now positions) ⌝ }
     ensures { λ r. ⌜ r ≡ recordsCheck (now (image .entry)) ⌝ }
 {
-    let mut tags = [0u64; 64];
+    let mut marks = [0u8; 128];
     let mut i: usize = 0;
     while i < count {
         let slot = slots[i];
-        let tag = tag_number(image, slot);
-        let repeated = is_among(&tags, i, tag);
+        let place = mark_place(tag_number(image, slot));
+        let repeated = is_repeated(image, slots, positions, count, i, slot, marks[place]);
         let verdict = check_record(image, positions, repeated, slot);
         let Verdict::Passed = verdict else {
             return verdict;
         };
-        tags[i] = tag;
+        marks[place] = 1;
         i += 1;
     }
     Verdict::Passed

@@ -1,29 +1,31 @@
 -- `scan` meets its contract: the table refused, or a scan over its blocks.
+use mathlib.Core.Path.{refl}
 use borrow.Author.Needs.{needs}
+use Rattle.table.proofs.ChainLaws.{no-slots}
 use Rattle.engine.proofs.AnswerLaws.{scan-table, scan-accepted-table}
 use Rattle.engine.proofs.scan.scan.Statement.{statement}
 use Rattle.engine.proofs.scan.scan.Tie as tie
 
 check-table-requires : tie.Need-check-table-requires
-check-table-requires c κs = search needs
+check-table-requires c κs = (refl, no-slots)
+
+enum-known-answer : tie.Need-enum-known-answer
+enum-known-answer c = search needs
 
 enum-told : tie.Need-enum-told
 enum-told c = search needs
-
-enum-told-2 : tie.Need-enum-told-2
-enum-told-2 c = search needs
 
 table-refusal-requires : tie.Need-table-refusal-requires
 table-refusal-requires c κs = search needs
 
 returns : tie.Need-returns
 returns c =
-    let a = c .before .before .before .before .before .before .before .before .before .args in
-    let told = c .before .enum-told2 .given .1 in
+    let a = c .before .before .before .before .before .before .before .before .before .before .before .args in
+    let told = c .before .enum-told .given .1 in
     scan-table (a .image .now) (a .state .now) (a .frame .now) (a .report .now) (a .journal .now) _ _ _ _ (c .before .before .before .check-table .ensures .0) told (c .table-refusal .ensures _ _ told)
 
 scan-blocks-requires : tie.Need-scan-blocks-requires
-scan-blocks-requires c κs = c .before .before .before .before .before .before .before .before .before .before .check-table .ensures .1 _ (c .before .before .before .before .before .before .before .before .enum-told .given .1)
+scan-blocks-requires c κs = c .before .before .before .before .before .before .before .before .check-table .ensures .1 _ (c .before .before .before .before .before .before .answer .given .1)
 
 same-length : tie.Need-same-length
 same-length c = search needs
@@ -37,7 +39,7 @@ same-length-3 c = search needs
 returns-2 : tie.Need-returns-2
 returns-2 c =
     let a = c .before .before .before .before .before .before .before .before .before .before .before .before .before .before .before .before .before .before .before .before .before .before .before .args in
-    let ok = c .before .before .before .before .before .before .before .before .before .before .before .before .before .before .before .before .before .check-table .ensures .1 _ (c .before .before .before .before .before .before .before .before .before .before .before .before .before .before .before .enum-told .given .1) in
+    let ok = c .before .before .before .before .before .before .before .before .before .before .before .before .before .before .before .check-table .ensures .1 _ (c .before .before .before .before .before .before .before .before .before .before .before .before .before .answer .given .1) in
     scan-accepted-table (a .image .now) (a .state .now) (a .frame .now) (a .report .now) (a .journal .now) _ (ok .answer) _ _ _ _ (c .before .before .before .before .before .before .scan-blocks .ensures)
 
 pub scan-spec : {M : Type 1} → statement M
@@ -45,8 +47,8 @@ scan-spec =
     tie.close
     (tie.spec
     check-table-requires
+    enum-known-answer
     enum-told
-    enum-told-2
     table-refusal-requires
     returns
     scan-blocks-requires

@@ -1,5 +1,5 @@
 -- `check::answered` meets its contract, by the two cases of the verdict.
-use mathlib.Core.Path.{refl, sym, ap}
+use mathlib.Core.Path.{sym, ap}
 use borrow.Author.Needs.{needs}
 use Rattle.table.specs.Check.{checkedAs}
 use Rattle.table.specs.declared.place.Verdict.{Verdict}
@@ -13,10 +13,10 @@ enum-known-verdict : tie.Need-enum-known-verdict
 enum-known-verdict c = search needs
 
 returns : tie.Need-returns
-returns c = (ap (λ (v : Verdict). checkedAs v (c .before .before .args .chain .count)) (sym (c .enum-told .given .1)), refl)
+returns c = ap (λ (v : Verdict). checkedAs v (c .before .before .args .count)) (sym (c .enum-told .given .1))
 
 returns-2 : tie.Need-returns-2
-returns-2 c = (ap (λ (v : Verdict). checkedAs v (c .before .before .before .args .chain .count)) (sym (c .before .verdict .given .1)), refl)
+returns-2 c = ap (λ (v : Verdict). checkedAs v (c .before .before .before .args .count)) (sym (c .before .verdict .given .1))
 
 pub answered-spec : {M : Type 1} → statement M
 answered-spec = tie.close (tie.spec enum-told enum-known-verdict returns returns-2)

@@ -14,18 +14,15 @@ enum-told c = search needs
 enum-told-2 : tie.Need-enum-told-2
 enum-told-2 c = search needs
 
-no-chain-requires : tie.Need-no-chain-requires
-no-chain-requires c κs = search needs
-
 answered-requires : tie.Need-answered-requires
 answered-requires c κs = search needs
 
 returns : tie.Need-returns
 returns c =
-    header-refused (c .before .before .before .before .before .before .args .image .now) _ _ _ _ _ _ (c .answered .ensures .0) _ _ (c .before .before .enum-told2 .given .1) (c .before .before .before .before .check-header .ensures)
+    header-refused (c .before .before .before .before .before .args .image .now) _ _ _ _ _ (c .answered .ensures) _ _ (c .before .enum-told2 .given .1) (c .before .before .before .check-header .ensures)
 
 walk-requires : tie.Need-walk-requires
-walk-requires c κs = headed-by (c .before .before .before .before .args .image .now) (sym (c .before .before .check-header .ensures) ∙ c .enum-told .given .1)
+walk-requires c κs = (headed-by (c .before .before .before .before .before .before .args .image .now) (sym (c .before .before .before .before .check-header .ensures) ∙ c .before .before .enum-told .given .1), c .before .before .before .before .before .before .pre)
 
 enum-told-3 : tie.Need-enum-told-3
 enum-told-3 c = search needs
@@ -38,10 +35,11 @@ answered-requires-2 c κs = search needs
 
 returns-2 : tie.Need-returns-2
 returns-2 c =
-    chain-refused (c .before .before .before .before .before .before .before .before .before .args .image .now) _ _ _ _ _ _ (c .answered2 .ensures .0) _ _ (c .before .enum-told4 .given .1) (sym (c .before .before .before .before .before .before .before .check-header .ensures) ∙ c .before .before .before .before .before .enum-told .given .1) (c .before .before .before .before .walk .ensures .0)
+    chain-refused (c .before .before .before .before .before .before .before .before .before .before .args .image .now) _ _ _ _ _ (c .answered2 .ensures) _ _ (c .before .enum-told4 .given .1) (sym (c .before .before .before .before .before .before .before .before .check-header .ensures) ∙ c .before .before .before .before .before .before .enum-told .given .1) (c .before .before .before .walk .ensures .0)
 
 check-records-requires : tie.Need-check-records-requires
-check-records-requires c κs = (headed-by (c .before .before .before .before .before .before .before .before .before .before .before .before .args .image .now) (sym (c .before .before .before .before .before .before .before .before .before .before .check-header .ensures) ∙ c .before .before .before .before .before .before .before .before .enum-told .given .1), c .before .before .before .before .before .before .before .walk .ensures .1)
+check-records-requires c κs =
+    (headed-by (c .before .before .before .before .before .before .before .before .before .before .before .args .image .now) (sym (c .before .before .before .before .before .before .before .before .before .check-header .ensures) ∙ c .before .before .before .before .before .before .before .enum-told .given .1), c .before .before .before .before .walk .ensures .1 (c .before .before .enum-told3 .given .1))
 
 enum-told-5 : tie.Need-enum-told-5
 enum-told-5 c = search needs
@@ -54,19 +52,19 @@ answered-requires-3 c κs = search needs
 
 returns-3 : tie.Need-returns-3
 returns-3 c =
-    records-refused (c .before .before .before .before .before .before .before .before .before .before .before .before .before .before .before .before .args .image .now) _ _ _ _ _ _ (c .answered3 .ensures .0) _ _ (c .before .enum-told6 .given .1) (sym (c .before .before .before .before .before .before .before .before .before .before .before .before .before .before .check-header .ensures) ∙ c .before .before .before .before .before .before .before .before .before .before .before .before .enum-told .given .1) (sym (c .before .before .before .before .before .before .before .before .before .before .before .walk .ensures .0) ∙ c .before .before .before .before .before .before .before .before .enum-told3 .given .1) (c .before .before .before .check-records .ensures)
+    records-refused (c .before .before .before .before .before .before .before .before .before .before .before .before .before .before .before .args .image .now) _ _ _ _ _ (c .answered3 .ensures) _ _ (c .before .enum-told6 .given .1) (sym (c .before .before .before .before .before .before .before .before .before .before .before .before .before .check-header .ensures) ∙ c .before .before .before .before .before .before .before .before .before .before .before .enum-told .given .1) (sym (c .before .before .before .before .before .before .before .before .walk .ensures .0) ∙ c .before .before .before .before .before .before .enum-told3 .given .1) (c .before .before .before .check-records .ensures)
 
 check-spares-requires : tie.Need-check-spares-requires
-check-spares-requires c κs = (headed-by (c .before .before .before .before .before .before .before .before .before .before .before .before .before .before .before .before .args .image .now) (sym (c .before .before .before .before .before .before .before .before .before .before .before .before .before .before .check-header .ensures) ∙ c .before .before .before .before .before .before .before .before .before .before .before .before .enum-told .given .1), c .before .before .before .before .before .before .before .before .before .before .before .walk .ensures .1 .places)
+check-spares-requires c κs =
+    (headed-by (c .before .before .before .before .before .before .before .before .before .before .before .before .before .before .before .args .image .now) (sym (c .before .before .before .before .before .before .before .before .before .before .before .before .before .check-header .ensures) ∙ c .before .before .before .before .before .before .before .before .before .before .before .enum-told .given .1), c .before .before .before .before .before .before .before .before .walk .ensures .1 (c .before .before .before .before .before .before .enum-told3 .given .1) .places)
 
 answered-requires-4 : tie.Need-answered-requires-4
 answered-requires-4 c κs = search needs
 
 returns-4 : tie.Need-returns-4
 returns-4 c =
-    let held = c .before .before .before .before .before .before .before .before .before .before .before .before .before .walk .ensures .1 in
-    rw (c .answered4 .ensures .1)
-    (spares-answer (c .before .before .before .before .before .before .before .before .before .before .before .before .before .before .before .before .before .before .args .image .now) _ _ _ _ _ (c .answered4 .ensures .0) (sym (c .before .before .before .before .before .before .before .before .before .before .before .before .before .before .before .before .check-header .ensures) ∙ c .before .before .before .before .before .before .before .before .before .before .before .before .before .before .enum-told .given .1) (sym (c .before .before .before .before .before .before .before .before .before .before .before .before .before .walk .ensures .0) ∙ c .before .before .before .before .before .before .before .before .before .before .enum-told3 .given .1) (sym (c .before .before .before .before .before .check-records .ensures) ∙ c .before .before .before .enum-told5 .given .1) (c .before .check-spares .ensures) held)
+    spares-answer (c .before .before .before .before .before .before .before .before .before .before .before .before .before .before .before .before .before .args .image .now) _ _ _ _ _ (c .answered4 .ensures) (sym (c .before .before .before .before .before .before .before .before .before .before .before .before .before .before .before .check-header .ensures) ∙ c .before .before .before .before .before .before .before .before .before .before .before .before .before .enum-told .given .1) (sym (c .before .before .before .before .before .before .before .before .before .before .walk .ensures .0) ∙ c .before .before .before .before .before .before .before .before .enum-told3 .given .1) (sym (c .before .before .before .before .before .check-records .ensures) ∙ c .before .before .before .enum-told5 .given .1) (c .before .check-spares .ensures)
+    (c .before .before .before .before .before .before .before .before .before .before .walk .ensures .1 (c .before .before .before .before .before .before .before .before .enum-told3 .given .1))
 
 pub check-table-spec : {M : Type 1} → statement M
 check-table-spec =
@@ -75,7 +73,6 @@ check-table-spec =
     check-header-requires
     enum-told
     enum-told-2
-    no-chain-requires
     answered-requires
     returns
     walk-requires
