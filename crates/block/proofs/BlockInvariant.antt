@@ -28,7 +28,7 @@ use Rattle.block.specs.declared.record.Record.{Record}
 use Rattle.block.specs.declared.event.Event.{Event}
 use Rattle.block.specs.declared.entry.Inputs.{Inputs}
 use Rattle.block.specs.declared.entry.Entry.{Entry}
-use Rattle.kind.proofs.Logic.{and-right}
+use Rattle.membership.proofs.Logic.{and-right}
 use Rattle.block.proofs.Tests.{to-six}
 use Rattle.block.proofs.Tests.{none as no-case}
 use Rattle.block.proofs.Shapes.{isDone, isError, isAborted, Settled, idle, runs, aborts, shows, resets, withdraws, settled-of}

@@ -29,7 +29,7 @@ use Rattle.block.specs.declared.executing.Work.{Work}
 use Rattle.block.specs.declared.executing.Bounds.{Bounds}
 use Rattle.block.specs.declared.pass.Pass.{Pass}
 use Rattle.block.specs.declared.call.CallResult.{CallResult}
-use Rattle.kind.proofs.Logic.{by-test}
+use Rattle.membership.proofs.Logic.{by-test}
 use Rattle.block.proofs.Tests.{choose, none}
 
 pieces-used : (several : Bool) (b : Bounds) (w : Work) (ps : List Piece) → usePieces several b w ps .used ≤ w .used + length ps

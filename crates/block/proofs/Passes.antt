@@ -30,7 +30,7 @@ use Rattle.block.specs.declared.entry.Inputs.{Inputs}
 use Rattle.block.specs.declared.entry.Entry.{Entry}
 use Rattle.block.specs.declared.executing.Work.{Work}
 use Rattle.block.specs.declared.pass.Pass.{Pass}
-use Rattle.kind.proofs.Logic.{by-test, and-left, and-right}
+use Rattle.membership.proofs.Logic.{by-test, and-left, and-right}
 use Rattle.block.proofs.Tests.{choose, never, or-right, each}
 use Rattle.block.proofs.Tests.{none as no-case}
 use Rattle.block.proofs.Shapes.{End, isDone, isError, isAborted, endStep, endFlags, busy, rec, timesFit, errorCode, EndFits, Settled, idle, runs, aborts, shows, resets, withdraws, Shape, settled, unshown}

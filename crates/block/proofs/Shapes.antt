@@ -12,7 +12,7 @@ use Rattle.block.specs.Record.{Dormant, Executing, Done, Error, Aborting
 use Rattle.block.specs.Sound.{only, busyOnly, doneOnly, errorOnly, abortedOnly, implies, zeroed, flagsFit, codeSound, requestSound, stepSound, timesSound, sound}
 use Rattle.block.specs.declared.record.Flags.{Flags}
 use Rattle.block.specs.declared.record.Record.{Record}
-use Rattle.kind.proofs.Logic.{by-test, and-left, and-right}
+use Rattle.membership.proofs.Logic.{by-test, and-left, and-right}
 use Rattle.block.proofs.Tests.{none, beq-true, or-cases, Each, each, to-six}
 
 -- the three end steps

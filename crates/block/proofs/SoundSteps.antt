@@ -9,7 +9,7 @@ use Rattle.clock.specs.declared.Timer.{Timer}
 use Rattle.block.specs.Record.{Dormant, Executing, Done, Error, Aborting, Aborted, Resetting, atStep}
 use Rattle.block.specs.Sound.{busyOnly, doneOnly, errorOnly, abortedOnly, implies, zeroed, flagsFit, codeSound, requestSound, stepSound, timesSound, sound}
 use Rattle.block.specs.declared.record.Record.{Record}
-use Rattle.kind.proofs.Logic.{by-test}
+use Rattle.membership.proofs.Logic.{by-test}
 use Rattle.block.proofs.Tests.{none, never, to-six}
 use Rattle.block.proofs.Shapes.{flagsOf, rec, fresh-is, beq-on}
 

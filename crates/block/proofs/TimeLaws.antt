@@ -23,7 +23,7 @@ use Rattle.block.specs.declared.record.Record.{Record}
 use Rattle.block.specs.declared.entry.Inputs.{Inputs}
 use Rattle.block.specs.declared.entry.Entry.{Entry}
 use Rattle.block.specs.declared.pass.Pass.{Pass}
-use Rattle.kind.proofs.Logic.{by-test}
+use Rattle.membership.proofs.Logic.{by-test}
 use Rattle.block.proofs.Tests.{never}
 use Rattle.block.proofs.Shapes.{Shape, settled, settled-of}
 use Rattle.block.proofs.Passes.{rank, Goes, starts, leaves, returns, passed}

@@ -21,7 +21,7 @@ use Rattle.block.specs.declared.entry.Piece.{Piece}
 use Rattle.block.specs.declared.entry.Entry.{Entry}
 use Rattle.block.specs.declared.executing.Work.{Work}
 use Rattle.block.specs.declared.executing.Bounds.{Bounds}
-use Rattle.kind.proofs.Logic.{and-left, and-right}
+use Rattle.membership.proofs.Logic.{and-left, and-right}
 use Rattle.block.proofs.Tests.{choose, none, or-cases, each}
 
 -- work w that became work v by using the first pieces of a list

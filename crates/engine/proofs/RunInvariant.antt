@@ -12,7 +12,7 @@ use Rattle.table.proofs.AcceptedLaws.{accepted-blocks, accepted-kind}
 use Rattle.layout.specs.Buffer.{recordLength, part}
 use Rattle.layout.specs.RecordLayout.{recordForm, soundBytes}
 use Rattle.layout.specs.EventLayout.{eventsAt}
-use Rattle.kind.proofs.Logic.{and-join}
+use Rattle.membership.proofs.Logic.{and-join}
 use Rattle.block.specs.History.{entriesOf, recordAfter}
 use Rattle.block.specs.BlockInvariant.{noCall}
 use Rattle.block.specs.Sound.{sound}

@@ -19,7 +19,7 @@ use Rattle.layout.specs.EntryLayout.{decodeEntry, decodeInputs}
 use Rattle.layout.specs.ReportLayout.{encodeReport}
 use Rattle.layout.specs.EventLayout.{encodeEvent, encodeEvents}
 use Rattle.layout.proofs.BufferLaws.{drop-put, put-own, put-nothing, part-length}
-use Rattle.kind.proofs.Logic.{and-left, and-right}
+use Rattle.membership.proofs.Logic.{and-left, and-right}
 use Rattle.layout.proofs.RecordLaws.{encode-fresh, decode-fresh}
 use Rattle.layout.proofs.CheckLaws.{dormant-zeros}
 use Rattle.layout.proofs.EventLaws.{event-length}

@@ -1,17 +1,8 @@
 -- Document 01, "Table image": the kinds and their properties.
-use mathlib.Core.Bool.{Bool, false, _||_, _&&_}
+use mathlib.Core.Bool.{Bool, _||_}
 use mathlib.Core.List.{List, [], _∷_}
 use Prim.Native.Nat.{ℕ}
-use lib.Dec.{leb, eqb}
-
--- k is one of first to last
-abbrev pub within : ℕ → ℕ → ℕ → Bool
-within first last k = leb first k && leb k last
-
--- k is one of some numbers
-abbrev pub among : ℕ → List ℕ → Bool
-among k [] = false
-among k (m ∷ ms) = eqb m k || among k ms
+use Rattle.membership.specs.Membership.{within, among}
 
 -- 1 ETrig, 2 ETrigTI, 3 ETrigTo, 4 ETrigTITo, 5 ETrigA, 6 ETrigATI, 7 ETrigATo, 8 ETrigATITo, 9 LCon, 10 LConTI, 11 LConTo, 12 LConTITo, 13 LConC, 14 LConTIC
 unfoldable pub isKind : ℕ → Bool

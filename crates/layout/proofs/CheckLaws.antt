@@ -22,7 +22,7 @@ use Rattle.layout.specs.Buffer.{byteAt}
 use Rattle.layout.specs.RecordLayout.{flagsByte, flagsOf, decodeRecord, recordForm, soundBytes}
 use Rattle.layout.specs.EntryLayout.{decodePiece, decodeEntry, headForm, entryForm, entryBytes}
 use Rattle.layout.proofs.BitLaws.{flags-back}
-use Rattle.kind.proofs.Logic.{and-left, and-right, and-join}
+use Rattle.membership.proofs.Logic.{and-left, and-right, and-join}
 use Rattle.layout.proofs.RecordLaws.{form-bytes, sound-form, sound-record}
 
 same : (a b : Bool) → (a ≡ true → b ≡ true) → (b ≡ true → a ≡ true) → a ≡ b

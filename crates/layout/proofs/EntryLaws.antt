@@ -19,7 +19,7 @@ use Rattle.layout.specs.EntryLayout.{encodePiece, decodePiece, encodePie
 use Rattle.layout.proofs.Fits.{All, nil, cons, PieceFits, EntryFits}
 use Rattle.layout.proofs.BitLaws.{inputs-bound, inputs-trip, inputs-back}
 use Rattle.layout.proofs.BufferLaws.{fill-whole}
-use Rattle.kind.proofs.Logic.{and-left, and-right, and-join}
+use Rattle.membership.proofs.Logic.{and-left, and-right, and-join}
 use Rattle.layout.proofs.FieldLaws.{field-bound, field-back, byte-back}
 
 -- four pieces read back

@@ -16,7 +16,7 @@ use Rattle.layout.specs.Buffer.{byteAt, jobWidth}
 use Rattle.layout.specs.RecordLayout.{flagsByte, encodeRecord, decodeRecord, recordForm, soundBytes}
 use Rattle.layout.proofs.Fits.{RecordFits}
 use Rattle.layout.proofs.BitLaws.{bit-le, bit-trip, bit-back, flags-bound, flags-trip, flags-back}
-use Rattle.kind.proofs.Logic.{and-left, and-right, and-join}
+use Rattle.membership.proofs.Logic.{and-left, and-right, and-join}
 use Rattle.layout.proofs.FieldLaws.{field-back, field-last, byte-back}
 
 pub encode-length : (r : Record) → length (encodeRecord r) ≡ 32

@@ -10,7 +10,8 @@ use borrow.Author.Tests.{eqb-true, leb-true, ltb-true, ltb-false}
 use lib.Dec.{leb, ltb, eqb}
 use lib.ListN.{length, getD, take}
 use lib.Seq.{getD-take, length-take-le}
-use Rattle.kind.specs.Kind.{isKind, hasAbort, among}
+use Rattle.kind.specs.Kind.{isKind, hasAbort}
+use Rattle.membership.specs.Membership.{among}
 use Rattle.table.specs.Place.{andThen}
 use Rattle.table.specs.Image.{slotCount, kindOf, wireSlot, wireCode, startWire, abortWire, tagOf, HasSlot}
 use Rattle.table.specs.Header.{headerCheck, Headed}
@@ -25,7 +26,7 @@ use Rattle.table.specs.declared.place.Place.the-variants.{Slot}
 use Rattle.table.specs.declared.place.Verdict.the-variants.{Passed}
 use Rattle.table.specs.declared.check.Checked.the-variants.{Blocks}
 use Rattle.table.specs.declared.blocks.Wire.{Wire}
-use Rattle.kind.proofs.Logic.{by-test, not-both, and-left, and-right}
+use Rattle.membership.proofs.Logic.{by-test, not-both, and-left, and-right}
 use Rattle.table.proofs.Logic.{not-failed, group-passes, rest-passes}
 use Rattle.table.proofs.AmongLaws.{position-bound, position-some, all-at, all-among}
 use Rattle.table.proofs.ChainLaws.{chain-in, chain-few, chain-distinct, has-slot}

@@ -10,9 +10,9 @@ use borrow.Author.Tests.{eq-eqb, ne-eqb, eqb-true}
 use lib.Dec.{eqb}
 use lib.ListN.{length, getD, take}
 use lib.Seq.{take-suc}
-use Rattle.kind.specs.Kind.{among}
+use Rattle.membership.specs.Membership.{among}
 use Rattle.table.specs.Chain.{positionFrom, positionOf}
-use Rattle.kind.proofs.Logic.{by-test, not-both}
+use Rattle.membership.proofs.Logic.{by-test, not-both}
 
 -- one more at the end
 pub among-snoc : (k : ℕ) (xs : List ℕ) (x : ℕ) → among k (xs ++ (x ∷ [])) ≡ (among k xs || eqb x k)

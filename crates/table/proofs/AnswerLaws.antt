@@ -8,7 +8,7 @@ use native.Mathlib.Omega.{arith}
 use borrow.Author.Tests.{ltb-false}
 use lib.Dec.{leb, ltb, eqb}
 use lib.ListN.{length, getD}
-use Rattle.kind.specs.Kind.{within, among}
+use Rattle.membership.specs.Membership.{within, among}
 use Rattle.table.specs.Place.{placeNumber, require, andThen}
 use Rattle.table.specs.Image.{version, slotCount, headSlot, nextOf, tagOf}
 use Rattle.table.specs.Header.{headerCheck}
@@ -23,7 +23,7 @@ use Rattle.table.specs.declared.place.Place.the-variants.{Header, Slot}
 use Rattle.table.specs.declared.place.Verdict.{Verdict}
 use Rattle.table.specs.declared.place.Verdict.the-variants.{Passed, Failed}
 use Rattle.table.specs.declared.check.Checked.the-variants.{Refused}
-use Rattle.kind.proofs.Logic.{by-test}
+use Rattle.membership.proofs.Logic.{by-test}
 use Rattle.table.proofs.AmongLaws.{AllIn}
 use Rattle.table.proofs.ChainLaws.{chain-in}
 

@@ -10,7 +10,7 @@ use borrow.Author.Tests.{eq-eqb, eqb-true, eqb-false, ltb-true, ltb-false}
 use lib.Dec.{ltb, eqb}
 use lib.ListN.{length, getD, take, set, replicate, length-append, length-set, List·getD-append}
 use lib.Seq.{take-suc-set, getD-set-same, getD-set-other, getD-take, getD-append-seam, length-take-le}
-use Rattle.kind.specs.Kind.{among}
+use Rattle.membership.specs.Membership.{among}
 use Rattle.table.specs.Image.{slotCount, headSlot, nextOf, HasSlot}
 use Rattle.table.specs.Header.{Headed}
 use Rattle.table.specs.Walk.{Met, Stopped, unmet, walkIn, walkFrom, walked}
@@ -19,7 +19,7 @@ use Rattle.table.specs.declared.place.Place.{Place}
 use Rattle.table.specs.declared.place.Place.the-variants.{Header, Slot}
 use Rattle.table.specs.declared.place.Verdict.{Verdict}
 use Rattle.table.specs.declared.place.Verdict.the-variants.{Passed, Failed}
-use Rattle.kind.proofs.Logic.{by-test}
+use Rattle.membership.proofs.Logic.{by-test}
 use Rattle.table.proofs.Logic.{not-failed}
 use Rattle.table.proofs.AmongLaws.{position-snoc, position-zero, position-some, position-test, among-at, AllIn, all-snoc, all-at}
 use Rattle.table.proofs.Walk.{unmet-nil, unmet-more, walk-ends, walk-above, walk-again, walk-onward}

@@ -7,7 +7,7 @@ use native.Mathlib.Omega.{arith}
 use borrow.Author.Tests.{eqb-true, leb-true}
 use lib.Dec.{leb, eqb}
 use lib.ListN.{length, getD}
-use Rattle.kind.specs.Kind.{within}
+use Rattle.membership.specs.Membership.{within}
 use Rattle.table.specs.Image.{version, slotCount}
 use Rattle.table.specs.Header.{headerCheck, Headed}
 use Rattle.table.specs.Walk.{walked}
@@ -21,7 +21,7 @@ use Rattle.table.specs.declared.place.Verdict.{Verdict}
 use Rattle.table.specs.declared.place.Verdict.the-variants.{Passed, Failed}
 use Rattle.table.specs.declared.check.Checked.{Checked}
 use Rattle.table.specs.declared.check.Checked.the-variants.{Blocks, Refused}
-use Rattle.kind.proofs.Logic.{by-test, and-left, and-right}
+use Rattle.membership.proofs.Logic.{by-test, and-left, and-right}
 use Rattle.table.proofs.Logic.{not-failed}
 
 -- what a header has that passed

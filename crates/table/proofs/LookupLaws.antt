@@ -21,7 +21,7 @@ use Rattle.table.specs.declared.check.Checked.{Checked}
 use Rattle.table.specs.declared.check.Checked.the-variants.{Blocks, Refused as CheckRefused}
 use Rattle.table.specs.declared.lookup.Found.{Found}
 use Rattle.table.specs.declared.lookup.Found.the-variants.{At, Refused}
-use Rattle.kind.proofs.Logic.{by-test, not-both}
+use Rattle.membership.proofs.Logic.{by-test, not-both}
 use Rattle.table.proofs.TagLaws.{same-equal, same-self}
 use Rattle.table.proofs.AcceptedLaws.{accepted-count, accepted-block, accepted-tags}
 use Rattle.table.proofs.AnswerLaws.{refusal-bounds}

@@ -10,7 +10,7 @@ use borrow.Author.Tests.{eq-eqb, ne-eqb, eqb-true}
 use lib.ListN.{length, getD, take, drop, set, length-set}
 use lib.Seq.{drop-cons, drop-length, take-suc, getD-set-same, getD-set-other}
 use Rattle.words.specs.Word.{Bytes, number}
-use Rattle.kind.proofs.Logic.{by-test, not-both}
+use Rattle.membership.proofs.Logic.{by-test, not-both}
 use Rattle.table.specs.Place.{andThen}
 use Rattle.table.specs.Image.{slotCount, tagOf, HasSlot}
 use Rattle.table.specs.Header.{Headed}

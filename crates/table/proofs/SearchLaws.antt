@@ -22,7 +22,7 @@ use Rattle.table.specs.declared.check.Checked.{Checked}
 use Rattle.table.specs.declared.check.Checked.the-variants.{Blocks, Refused as CheckRefused}
 use Rattle.table.specs.declared.lookup.Found.{Found}
 use Rattle.table.specs.declared.lookup.Found.the-variants.{At, Refused}
-use Rattle.kind.proofs.Logic.{by-test}
+use Rattle.membership.proofs.Logic.{by-test}
 use Rattle.table.proofs.TagLaws.{same-number, tag-length, tag-bytes}
 use Rattle.table.proofs.AcceptedLaws.{accepted-has-slot, accepted-count}
 use Rattle.table.proofs.HeldLaws.{held-slot, held-has}

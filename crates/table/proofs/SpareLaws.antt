@@ -16,7 +16,7 @@ use Rattle.table.specs.Chain.{chainOf}
 use Rattle.table.specs.Spare.{allZero, spareOk, sparesFrom, sparesCheck}
 use Rattle.table.specs.declared.place.Place.the-variants.{Slot}
 use Rattle.table.specs.declared.place.Verdict.the-variants.{Passed, Failed}
-use Rattle.kind.proofs.Logic.{by-test}
+use Rattle.membership.proofs.Logic.{by-test}
 
 -- bytes are all zero where their number is 0
 zero-number : (t : List ℕ) → allZero t ≡ eqb (number t) 0

@@ -14,7 +14,7 @@ use Rattle.words.specs.Word.{Bytes, number}
 use Rattle.words.proofs.WordLaws.{number-injective}
 use Rattle.table.specs.Image.{slotStart, tagOf, HasSlot}
 use Rattle.table.specs.Tag.{tagChar, spaces, padded, tagText, tagForm, sameBytes}
-use Rattle.kind.proofs.Logic.{by-test, not-both, and-left}
+use Rattle.membership.proofs.Logic.{by-test, not-both, and-left}
 
 -- from an index on
 module _ (t : List ℕ) (i : ℕ) where

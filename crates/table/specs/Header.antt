@@ -5,7 +5,7 @@ use mathlib.Core.Bool.{_&&_}
 use mathlib.Core.List.{List}
 use lib.Dec.{leb, eqb}
 use lib.ListN.{length, getD}
-use Rattle.kind.specs.Kind.{within}
+use Rattle.membership.specs.Membership.{within}
 use Rattle.table.specs.Place.{require}
 use Rattle.table.specs.Image.{version, slotCount}
 use Rattle.table.specs.declared.place.Place.the-variants.{Header}

@@ -3,7 +3,8 @@ use Prim.Native.Nat.{ℕ, _%_}
 use mathlib.Core.List.{List, [], _∷_, _++_}
 use mathlib.Core.Bool.{Bool, false, cond, not, _&&_, _||_}
 use lib.Dec.{ltb, eqb}
-use Rattle.kind.specs.Kind.{isKind, hasAbort, among}
+use Rattle.kind.specs.Kind.{isKind, hasAbort}
+use Rattle.membership.specs.Membership.{among}
 use Rattle.table.specs.Place.{require, andThen}
 use Rattle.table.specs.Image.{slotByte, kindOf, wireSlot, wireCode, startWire, abortWire, tagOf}
 use Rattle.table.specs.Tag.{tagForm, sameBytes}

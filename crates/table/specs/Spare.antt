@@ -3,7 +3,7 @@ use Prim.Native.Nat.{ℕ, zero, suc}
 use mathlib.Core.List.{List, [], _∷_}
 use mathlib.Core.Bool.{Bool, true, _&&_, _||_}
 use lib.Dec.{eqb}
-use Rattle.kind.specs.Kind.{among}
+use Rattle.membership.specs.Membership.{among}
 use Rattle.table.specs.Place.{require}
 use Rattle.table.specs.Image.{slotCount, slotBytes}
 use Rattle.table.specs.Chain.{chainOf}

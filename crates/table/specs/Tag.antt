@@ -4,7 +4,7 @@ use mathlib.Core.List.{List, [], _∷_}
 use mathlib.Core.Bool.{Bool, true, false, cond, _&&_, _||_}
 use lib.Dec.{eqb}
 use lib.ListN.{length}
-use Rattle.kind.specs.Kind.{within}
+use Rattle.membership.specs.Membership.{within}
 
 -- "A-Z and 0-9"
 unfoldable pub tagChar : ℕ → Bool

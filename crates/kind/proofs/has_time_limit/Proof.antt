@@ -1,6 +1,6 @@
 -- `kind::has_time_limit` meets its contract: the arms of the match are the numbers of the definition.
 use Rattle.kind.specs.Kind.{hasTimeLimit, timeLimitKinds}
-use Rattle.kind.proofs.Ranges.{none-of, some-of}
+use Rattle.membership.proofs.MembershipLaws.{none-of, some-of}
 use Rattle.kind.proofs.has_time_limit.Statement.{statement}
 use Rattle.kind.proofs.has_time_limit.Tie as tie
 

@@ -3,7 +3,7 @@ use mathlib.Core.Path.{refl}
 use mathlib.Core.Bool.{true, false}
 use native.Mathlib.Omega.{arith}
 use Rattle.kind.specs.Kind.{isEdge}
-use Rattle.kind.proofs.Ranges.{in-range, agree, equals}
+use Rattle.membership.proofs.MembershipLaws.{in-range, agree, equals}
 use Rattle.kind.proofs.is_edge.Statement.{statement}
 use Rattle.kind.proofs.is_edge.Tie as tie
 

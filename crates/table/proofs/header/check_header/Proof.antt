@@ -6,7 +6,7 @@ use lib.ListN.{length, getD}
 use borrow.Author.Needs.{needs}
 use borrow.Author.Tests.{le-leb, lt-leb, eq-eqb, ne-eqb, not-true, not-false}
 use lib.Dec.{eqb, leb}
-use Rattle.kind.specs.Kind.{within}
+use Rattle.membership.specs.Membership.{within}
 use Rattle.table.specs.Image.{version, slotCount}
 use Rattle.table.specs.Header.{headerCheck}
 use Rattle.table.proofs.header.check_header.Statement.{statement}

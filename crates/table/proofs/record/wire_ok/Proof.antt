@@ -2,7 +2,7 @@
 use mathlib.Core.Path.{_≡_, sym, _∙_}
 use borrow.Author.Needs.{needs}
 use borrow.Author.Tests.{eq-eqb, ne-eqb}
-use Rattle.kind.specs.Kind.{among}
+use Rattle.membership.specs.Membership.{among}
 use Rattle.table.specs.Image.{wireSlot}
 use Rattle.table.specs.Chain.{chainOf}
 use Rattle.table.proofs.ChainLaws.{on-chain-is}

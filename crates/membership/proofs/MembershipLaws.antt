@@ -1,4 +1,4 @@
--- A property of kinds is proved of a range of kind bytes by one computed test: for the proofs of the functions of this crate.
+-- A value computed of a range of numbers holds of each of them, and membership in a list by its cases: for the proofs of the functions of crate kind.
 use mathlib.Core.Path.{_≡_, _∙_, subst, sym, refl}
 use mathlib.Core.Bool.{Bool, true, false, not, _&&_, or-true}
 use mathlib.Core.List.{List, [], _∷_}
@@ -9,8 +9,8 @@ use native.Mathlib.Omega.{arith}
 use lib.Dec.{eqb}
 use borrow.Author.Tests.{ne-eqb, eq-eqb}
 use types.Run.{OneOf}
-use Rattle.kind.specs.Kind.{among}
-use Rattle.kind.proofs.Logic.{and-left, and-right}
+use Rattle.membership.specs.Membership.{among}
+use Rattle.membership.proofs.Logic.{and-left, and-right}
 
 -- f holds at first and the n - 1 numbers after it
 abbrev pub throughout : (ℕ → Bool) → ℕ → ℕ → Bool
