@@ -10,8 +10,8 @@ use crate::text::column;
 use crate::text::number;
 use crate::text::print;
 use block::entry::Entry;
-use engine::answer::Freshened;
-use engine::answer::Scanned;
+use engine::scan::Scanned;
+use table::check::Checked;
 use table::lookup::Found;
 
 // Two blocks of kind 1: LANE0 in slot 1, LANEO in slot 2.
@@ -115,11 +115,11 @@ fn fresh_state() -> [u8; 64] {
     let answer = engine::fresh::fresh(&image, &mut state);
     column(b"fresh", 10);
     match answer {
-        Freshened::Blocks(count) => {
+        Checked::Blocks(count) => {
             number(count as u64);
             print(b" blocks\n");
         }
-        Freshened::Refused(number, place) => {
+        Checked::Refused(number, place) => {
             names::refusal(number, place);
             print(b"\n");
         }

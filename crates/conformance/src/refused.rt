@@ -10,7 +10,7 @@ use crate::single::scan;
 use crate::text::column;
 use crate::text::print;
 use block::entry::Entry;
-use engine::answer::Scanned;
+use engine::scan::Scanned;
 
 fn answer_line(name: &[u8], answer: Scanned) {
     column(name, 10);

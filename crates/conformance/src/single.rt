@@ -4,8 +4,8 @@ use crate::names;
 use crate::text::column;
 use crate::text::print;
 use block::entry::Entry;
-use engine::answer::Freshened;
-use engine::answer::Scanned;
+use engine::scan::Scanned;
+use table::check::Checked;
 
 // A table of one block of this kind.
 pub fn image_of(kind: u8) -> [u8; 20] {
@@ -18,7 +18,7 @@ pub fn image_of(kind: u8) -> [u8; 20] {
 pub fn fresh_state(image: &[u8; 20]) -> [u8; 32] {
     let mut state = [255; 32];
     let answer = engine::fresh::fresh(image, &mut state);
-    if let Freshened::Refused(number, place) = answer {
+    if let Checked::Refused(number, place) = answer {
         names::refusal(number, place);
         print(b"\n");
     }

@@ -14,7 +14,7 @@ use Rattle.table.specs.Check.{checkOf}
 use Rattle.table.specs.declared.place.Place.{Place}
 use Rattle.table.specs.declared.place.Place.the-variants.{Header}
 use Rattle.table.specs.declared.check.Checked.{Checked}
-use Rattle.table.specs.declared.check.Checked.the-variants.{Blocks as TableBlocks, Refused as TableRefused}
+use Rattle.table.specs.declared.check.Checked.the-variants.{Blocks, Refused}
 use Rattle.layout.specs.Buffer.{recordLength, part}
 use Rattle.layout.specs.RecordLayout.{decodeRecord, recordForm}
 use Rattle.layout.proofs.BufferLaws.{part-zeros}
@@ -22,18 +22,16 @@ use Rattle.layout.proofs.RecordLaws.{decode-fresh}
 use Rattle.block.specs.Record.{freshRecord}
 use Rattle.engine.specs.Fresh.{freshOf}
 use Rattle.engine.specs.Serve.{recordIn}
-use Rattle.engine.specs.declared.answer.Freshened.{Freshened}
-use Rattle.engine.specs.declared.answer.Freshened.the-variants.{Blocks, Refused}
 
 pub record FreshMade (image buffer : List ℕ) (n : ℕ) : Type 0 where
-  pub table : checkOf image ≡ TableBlocks n
+  pub table : checkOf image ≡ Blocks n
   pub sized : length buffer ≡ recordLength * length (blocksOf image)
   pub zeros : freshOf image buffer .state ≡ replicate (length buffer) 0
 
-refused-not : {A : Type 0} (a : Freshened) (n number : ℕ) (place : Place) → a ≡ Refused number place → a ≡ Blocks n → A
+refused-not : {A : Type 0} (a : Checked) (n number : ℕ) (place : Place) → a ≡ Refused number place → a ≡ Blocks n → A
 refused-not a n number place e f = let z : _≡_ {A = ℕ} 0 1 = cc in absurd (omega arith)
 
-blocks-same : (a : Freshened) (m n : ℕ) → a ≡ Blocks m → a ≡ Blocks n → m ≡ n
+blocks-same : (a : Checked) (m n : ℕ) → a ≡ Blocks m → a ≡ Blocks n → m ≡ n
 blocks-same a m n e f = cc
 
 pub fresh-made : (image buffer : List ℕ) (n : ℕ) → freshOf image buffer .answer ≡ Blocks n → FreshMade image buffer n
@@ -42,14 +40,14 @@ fresh-made image buffer n = after (checkOf image) refl (eqb (length buffer) (rec
   where
     after : (c : Checked) → checkOf image ≡ c → (b : Bool) → eqb (length buffer) (recordLength * length (blocksOf image)) ≡ b
         → freshOf image buffer .answer ≡ Blocks n → FreshMade image buffer n
-    after (TableBlocks m) e true s a =
+    after (Blocks m) e true s a =
         record {
-          table = e ∙ ap TableBlocks (blocks-same (Blocks m) m n refl (rw (e, s) at a));
+          table = e ∙ ap Blocks (blocks-same (Blocks m) m n refl (rw (e, s) at a));
           sized = eqb-true (length buffer) (recordLength * length (blocksOf image)) s;
           zeros = rw (e, s);
         }
-    after (TableBlocks m) e false s a = refused-not (Refused 20 Header) n 20 Header refl (rw (e, s) at a)
-    after (TableRefused number place) e b s a = refused-not (Refused number place) n number place refl (rw e at a)
+    after (Blocks m) e false s a = refused-not (Refused 20 Header) n 20 Header refl (rw (e, s) at a)
+    after (Refused number place) e b s a = refused-not (Refused number place) n number place refl (rw e at a)
 
 -- every record of zeros is fresh, past the last one too
 zeros-part : (n j : ℕ) → j < n → part recordLength j (replicate (recordLength * n) 0) ≡ replicate recordLength 0

@@ -1,15 +1,10 @@
 pub mod VerifyLaws
 pub mod ClearLaws
-pub mod FitsLaws
 pub mod GridLaws
-pub mod JournalLaws
-pub mod Projection
+pub mod ServedLaws
 pub mod ServeLaws
 pub mod ServingLaws
 pub mod AnswerLaws
 pub mod RefusalLaws
 pub mod ScanAccepted
-pub mod ScanLaws
 pub mod FreshLaws
-pub mod RunInvariant
-pub mod RunExamples

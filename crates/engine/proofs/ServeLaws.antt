@@ -11,9 +11,9 @@ use mathlib.Core.Path.{_≡_, refl, ap, sym, _∙_}
 use lib.Dec.{eqb, lit<}
 use lib.ListN.{length, take, drop, getD, length-append, replicate}
 use lib.Seq.{getD-take, getD-drop, take-at, length-take-le}
-use Rattle.table.specs.declared.blocks.Wire.{Wire}
+use Rattle.table.specs.declared.blocks.Wiring.{Wiring}
 use borrow.Author.Tests.{not-true, eqb-true}
-use Rattle.layout.specs.Buffer.{recordLength, eventLength, byteAt, part, put}
+use Rattle.layout.specs.Buffer.{recordLength, entryLength, reportLength, eventLength, byteAt, part, put}
 use Rattle.layout.specs.RecordLayout.{flagsOf, encodeRecord, decodeRecord}
 use Rattle.layout.specs.EntryLayout.{decodeEntry, decodeInputs}
 use Rattle.layout.specs.ReportLayout.{encodeReport}
@@ -31,23 +31,23 @@ use Rattle.block.specs.declared.call.CallResult.{CallResult}
 use Rattle.block.specs.declared.event.Event.{Event}
 use Rattle.block.specs.declared.entry.Inputs.{Inputs}
 use Rattle.block.specs.declared.record.Record.{Record}
-use Rattle.engine.specs.Inputs.{flagsIn, wired, inputsOf}
+use Rattle.engine.specs.Inputs.{flagsIn, inputsOf}
 use Rattle.engine.specs.Callable.{Callable}
-use Rattle.engine.specs.Serve.{Buffers, recordIn, entryIn, untagged, idle, callIn, written, served}
+use Rattle.engine.specs.Serve.{Buffers, recordIn, entryIn, idle, callIn, written, served}
 
 -- "1 flags": byte 1 of the block's record
-pub flags-at : (state : List ℕ) (i : ℕ) → flagsOf (getD state (32 * i + 1) 0) ≡ flagsIn state i
+pub flags-at : (state : List ℕ) (i : ℕ) → flagsOf (getD state (recordLength * i + 1) 0) ≡ flagsIn state i
 unfolding decodeRecord
-flags-at state i = ap flagsOf (sym (getD-take 32 (drop (32 * i) state) 1 0 (lit< tt) ∙ getD-drop (32 * i) state 1 0))
+flags-at state i = ap flagsOf (sym (getD-take recordLength (drop (recordLength * i) state) 1 0 (lit< tt) ∙ getD-drop (recordLength * i) state 1 0))
 
 -- the step and the inputs: byte 0 of the block's record, and of its entry
-pub step-at : (state : List ℕ) (i : ℕ) → getD state (32 * i) 0 ≡ recordIn state i .step
+pub step-at : (state : List ℕ) (i : ℕ) → getD state (recordLength * i) 0 ≡ recordIn state i .step
 unfolding decodeRecord
-step-at state i = sym (getD-take 32 (drop (32 * i) state) 0 0 (lit< tt) ∙ rw add-zero at (getD-drop (32 * i) state 0 0))
+step-at state i = sym (getD-take recordLength (drop (recordLength * i) state) 0 0 (lit< tt) ∙ rw add-zero at (getD-drop (recordLength * i) state 0 0))
 
-pub bits-at : (frame : List ℕ) (i : ℕ) → decodeInputs (getD frame (56 * i) 0) ≡ entryIn frame i .inputs
+pub bits-at : (frame : List ℕ) (i : ℕ) → decodeInputs (getD frame (entryLength * i) 0) ≡ entryIn frame i .inputs
 unfolding decodeEntry
-bits-at frame i = ap decodeInputs (sym (getD-take 56 (drop (56 * i) frame) 0 0 (lit< tt) ∙ rw add-zero at (getD-drop (56 * i) frame 0 0)))
+bits-at frame i = ap decodeInputs (sym (getD-take entryLength (drop (entryLength * i) frame) 0 0 (lit< tt) ∙ rw add-zero at (getD-drop (entryLength * i) frame 0 0)))
 
 -- a value put right after another
 put-put : (at : ℕ) (v w s : List ℕ) → at + length v + length w ≤ length s → put (at + length v) w (put at v s) ≡ put at (v ++ w) s
@@ -73,9 +73,9 @@ module _ (n position : ℕ) (first second : Event) (count : ℕ) (journal : List
 
   pub append-none : count ≡ 0 → Appended n journal
   unfolding encodeEvents
-  append-none e = rw e (omega arith, sym (put-nothing (8 * n) journal))
+  append-none e = rw e (omega arith, sym (put-nothing (eventLength * n) journal))
 
-  pub append-one : (after : List ℕ) → count ≡ 1 → after ≡ put (8 * n) (encodeEvent position first) journal → Appended (n + 1) after
+  pub append-one : (after : List ℕ) → count ≡ 1 → after ≡ put (eventLength * n) (encodeEvent position first) journal → Appended (n + 1) after
   unfolding encodeEvents
   append-one after e h = rw e (refl, rw append-nil h)
 
@@ -88,58 +88,58 @@ module _ (n position : ℕ) (first second : Event) (count : ℕ) (journal : List
       go (suc (suc zero)) e = refl
       go (suc (suc (suc c))) e = refl
 
-  pub append-two : (middle after : List ℕ) → (count ≡ 0 → ⊥) → (count ≡ 1 → ⊥) → 8 * n + 16 ≤ length journal
-      → middle ≡ put (8 * n) (encodeEvent position first) journal → after ≡ put (8 * n + 8) (encodeEvent position second) middle → Appended (n + 2) after
+  pub append-two : (middle after : List ℕ) → (count ≡ 0 → ⊥) → (count ≡ 1 → ⊥) → eventLength * n + 2 * eventLength ≤ length journal
+      → middle ≡ put (eventLength * n) (encodeEvent position first) journal → after ≡ put (eventLength * n + eventLength) (encodeEvent position second) middle → Appended (n + 2) after
   unfolding encodeEvents
   append-two middle after z o room h g =
       let x = encodeEvent position first in
       let y = encodeEvent position second in
-      let lx : length x ≡ 8 = event-length position first in
-      let ly : length y ≡ 8 = event-length position second in
-      let p : put (8 * n + 8) y (put (8 * n) x journal) ≡ put (8 * n) (x ++ y) journal = put-next (8 * n) 8 x y journal lx (omega arith) in
-      rw (both z o, append-nil) (refl, g ∙ ap (put (8 * n + 8) y) h ∙ p)
+      let lx : length x ≡ eventLength = event-length position first in
+      let ly : length y ≡ eventLength = event-length position second in
+      let p : put (eventLength * n + eventLength) y (put (eventLength * n) x journal) ≡ put (eventLength * n) (x ++ y) journal = put-next (eventLength * n) eventLength x y journal lx (omega arith) in
+      rw (both z o, append-nil) (refl, g ∙ ap (put (eventLength * n + eventLength) y) h ∙ p)
 
 -- what a call leaves in the buffers, put together
 pub written-is : (i : ℕ) (state report journal : List ℕ) (events : ℕ) (a : CallResult) (newState newReport newJournal : List ℕ) (count : ℕ)
-    → newState ≡ put (32 * i) (encodeRecord (a .next)) state
-    → newReport ≡ put (12 * i) (encodeReport (outcomeOf a)) report
-    → newJournal ≡ put (8 * events) (encodeEvents (i + 1) (outcomeOf a .events)) journal
+    → newState ≡ put (recordLength * i) (encodeRecord (a .next)) state
+    → newReport ≡ put (reportLength * i) (encodeReport (outcomeOf a)) report
+    → newJournal ≡ put (eventLength * events) (encodeEvents (i + 1) (outcomeOf a .events)) journal
     → count ≡ events + length (outcomeOf a .events)
     → _≡_ {A = Buffers} (record { state = newState; report = newReport; journal = newJournal; events = count })
     (written i (outcomeOf a) (record { state = state; report = report; journal = journal; events = events }))
 written-is i state report journal events a newState newReport newJournal count es er ej ec =
-    let f : newJournal ≡ put (8 * events) (encodeEvents (suc i) (outcomeOf a .events)) journal = rw add-one at ej in
+    let f : newJournal ≡ put (eventLength * events) (encodeEvents (suc i) (outcomeOf a .events)) journal = rw add-one at ej in
     λ j. record { state = es j; report = er j; journal = f j; events = ec j }
 
 -- a block served: its inputs, its call, and what the call leaves
-module _ (kind : ℕ) (start abort : Wire) (i : ℕ) (frame state report journal : List ℕ) (events : ℕ) (inputs : Inputs)
-    (resolved : inputs ≡ wired start abort (flagsIn state) (entryIn frame i .inputs)) (a : CallResult) where
+module _ (b : Wiring) (i : ℕ) (frame state report journal : List ℕ) (events : ℕ) (inputs : Inputs)
+    (resolved : inputs ≡ inputsOf b (flagsIn state) (entryIn frame i .inputs)) (a : CallResult) where
   abbrev before : Buffers
   before = record { state = state; report = report; journal = journal; events = events }
 
-  pub served-is : (after : Buffers) → outcomeOf a ≡ callOf kind inputs (entryIn frame i) (recordIn state i) → after ≡ written i (outcomeOf a) before
-      → after ≡ served (untagged kind start abort) i frame before
-  unfolding served callIn inputsOf
+  pub served-is : (after : Buffers) → outcomeOf a ≡ callOf (b .kind) inputs (entryIn frame i) (recordIn state i) → after ≡ written i (outcomeOf a) before
+      → after ≡ served b i frame before
+  unfolding served callIn
   served-is after called w =
-      w ∙ ap (λ (o : Outcome). written i o before) (called ∙ ap (λ (x : Inputs). callOf kind x (entryIn frame i) (recordIn state i)) resolved)
+      w ∙ ap (λ (o : Outcome). written i o before) (called ∙ ap (λ (x : Inputs). callOf (b .kind) x (entryIn frame i) (recordIn state i)) resolved)
 
-  -- an idle block: its record is 32 zero bytes and stays so, its report entry is that of a call that changes nothing, and it has no events
-  pub idle-is : Callable kind i frame state → idle inputs (recordIn state i) ≡ true → outcomeOf a ≡ unchanged freshRecord
-      → (newReport : List ℕ) → newReport ≡ put (12 * i) (encodeReport (outcomeOf a)) report
-      → _≡_ {A = Buffers} (record { state = state; report = newReport; journal = journal; events = events }) (served (untagged kind start abort) i frame before)
+  -- an idle block: its record is all zero and stays so, its report entry is that of a call that changes nothing, and it has no events
+  pub idle-is : Callable (b .kind) i frame state → idle inputs (recordIn state i) ≡ true → outcomeOf a ≡ unchanged freshRecord
+      → (newReport : List ℕ) → newReport ≡ put (reportLength * i) (encodeReport (outcomeOf a)) report
+      → _≡_ {A = Buffers} (record { state = state; report = newReport; journal = journal; events = events }) (served b i frame before)
   unfolding decodeRecord encodeEvents
   idle-is c idles ea newReport er =
       let own = part recordLength i state in
       let dormant : byteAt own 0 ≡ Dormant = eqb-true (byteAt own 0) 0 (and-left (eqb (byteAt own 0) 0) (not (inputs .start)) idles) in
       let off : inputs .start ≡ false = not-true (inputs .start) (and-right (eqb (byteAt own 0) 0) (not (inputs .start)) idles) in
-      let full : length own ≡ 32 = part-length 32 i state (c .own) in
-      let zeros : own ≡ replicate 32 0 = dormant-zeros own (omega arith) kind dormant full (c .isSound) in
+      let full : length own ≡ recordLength = part-length recordLength i state (c .own) in
+      let zeros : own ≡ replicate recordLength 0 = dormant-zeros own (omega arith) (b .kind) dormant full (c .isSound) in
       let fresh : recordIn state i ≡ freshRecord = ap decodeRecord zeros ∙ decode-fresh in
-      let called = idle-call kind inputs (entryIn frame i) (recordIn state i) dormant off ∙ ap unchanged fresh ∙ sym ea in
-      let kept : put (32 * i) (encodeRecord (a .next)) state ≡ state =
-      ap (λ (r : Record). put (32 * i) (encodeRecord r) state) (ap (λ (o : Outcome). o .next) ea)
-      ∙ ap (λ (v : List ℕ). put (32 * i) v state) (encode-fresh ∙ sym zeros) ∙ put-own (32 * i) 32 state (c .own) in
+      let called = idle-call (b .kind) inputs (entryIn frame i) (recordIn state i) dormant off ∙ ap unchanged fresh ∙ sym ea in
+      let kept : put (recordLength * i) (encodeRecord (a .next)) state ≡ state =
+      ap (λ (r : Record). put (recordLength * i) (encodeRecord r) state) (ap (λ (o : Outcome). o .next) ea)
+      ∙ ap (λ (v : List ℕ). put (recordLength * i) v state) (encode-fresh ∙ sym zeros) ∙ put-own (recordLength * i) recordLength state (c .own) in
       let none : outcomeOf a .events ≡ [] = ap (λ (o : Outcome). o .events) ea in
       served-is _ (sym called)
       (written-is i state report journal events a state newReport journal events (sym kept) er
-      (rw none (sym (put-nothing (8 * events) journal))) (rw none (omega arith)))
+      (rw none (sym (put-nothing (eventLength * events) journal))) (rw none (omega arith)))

@@ -9,28 +9,25 @@ use lib.Dec.{leb}
 use lib.ListN.{length}
 use borrow.Author.Tests.{leb-true}
 use Rattle.table.specs.Check.{checkOf}
-use Rattle.table.specs.Blocks.{Block, blocksOf, blockAt}
+use Rattle.table.specs.Blocks.{Block, blocksOf, wiringAt}
 use Rattle.table.specs.declared.check.Checked.the-variants.{Blocks}
-use Rattle.table.specs.declared.blocks.Wire.{Wire}
+use Rattle.table.specs.declared.blocks.Wiring.{Wiring}
 use Rattle.table.proofs.AcceptedLaws.{accepted-blocks, accepted-few, accepted-start, accepted-abort}
 use Rattle.layout.specs.Buffer.{recordLength, entryLength, reportLength, eventLength, part, put}
-use Rattle.layout.specs.ReportLayout.{encodeReport}
 use Rattle.layout.specs.EventLayout.{encodeEvents}
 use Rattle.layout.proofs.BufferLaws.{put-length}
 use Rattle.layout.proofs.EntryLaws.{entry-fits}
-use Rattle.layout.proofs.ReportLaws.{report-length}
 use Rattle.layout.proofs.EventLaws.{events-length}
 use Rattle.block.specs.Entry.{codeFits, piecesFit, entryFits}
 use Rattle.block.specs.Call.{Outcome}
 use Rattle.block.specs.Sound.{sound}
 use Rattle.block.specs.declared.entry.Entry.{Entry}
 use Rattle.block.proofs.Tests.{each}
-use Rattle.engine.specs.Inputs.{inputsOf}
-use Rattle.engine.specs.Serve.{Buffers, entryIn, callIn, served, servedTo, untagged}
+use Rattle.engine.specs.Told.{Told}
+use Rattle.engine.specs.Serve.{Buffers, entryIn, served, servedTo}
 use Rattle.engine.specs.Callable.{Callable, Reached}
 use Rattle.engine.specs.ScanAccepted.{StateFits, GivenFits}
-use Rattle.engine.proofs.GridLaws.{grid-length}
-use Rattle.engine.proofs.Projection.{buffersAt, outcomeAt, state-length, state-later, events-few}
+use Rattle.engine.proofs.ServedLaws.{buffersAt, outcomeAt, state-length, state-later, report-sized, events-few}
 
 -- "piece count n, 0 to 4"
 count-few : (e : Entry) → entryFits e ≡ true → e .count ≤ 4
@@ -40,24 +37,15 @@ count-few e h =
     (each (leb (e .count) 4) (leb (e .«abort_reply») 2 ∷ leb (e .«reset_reply») 1 ∷ codeFits (e .«abort_reply») (e .«abort_code») ∷ piecesFit (e .count) 0 (e .pieces) ∷ []) h .0)
 
 -- the buffers after n blocks, of what passed checks 20 to 41
-module _ (blocks : List Block) (frame state report journal : List ℕ) (s : StateFits blocks state) (g : GivenFits blocks frame report journal) where
+module _ (blocks : List Block) (told : Told) (state report journal : List ℕ) (s : StateFits blocks state) (g : GivenFits blocks told report journal) where
   abbrev after : ℕ → Buffers
-  after n = buffersAt blocks frame state report journal n
+  after n = buffersAt blocks told state report journal n
 
   abbrev outcome : ℕ → Outcome
-  outcome i = outcomeAt blocks frame state report journal i
+  outcome i = outcomeAt blocks told state report journal i
 
   few : (n : ℕ) → n ≤ length blocks → after n .events ≤ 2 * n
-  few n l = events-few blocks frame state report journal s n l
-
-  report-next : (i : ℕ) → after (suc i) .report ≡ put (reportLength * i) (encodeReport (outcome i)) (after i .report)
-  unfolding servedTo served
-  report-next i = refl
-
-  report-sized : (n : ℕ) → n ≤ length blocks → length (after n .report) ≡ length report
-  unfolding servedTo
-  report-sized n l =
-      grid-length reportLength (λ i. encodeReport (outcome i)) (λ i. after i .report) (λ i. report-length (outcome i)) report-next n (omega (arith, g .reportSized))
+  few n l = events-few blocks told state report journal s n l
 
   journal-sized : (n : ℕ) → n ≤ length blocks → length (after n .journal) ≡ length journal
   unfolding servedTo served
@@ -69,61 +57,58 @@ module _ (blocks : List Block) (frame state report journal : List ℕ) (s : Stat
       ∙ h
 
 -- the buffers after i blocks
-pub record Serving (blocks : List Block) (frame state₀ report₀ journal₀ : List ℕ) (i : ℕ) (state report journal : List ℕ) (events : ℕ) : Type 0 where
+pub record Serving (blocks : List Block) (told : Told) (state₀ report₀ journal₀ : List ℕ) (i : ℕ) (state report journal : List ℕ) (events : ℕ) : Type 0 where
   pub within : i ≤ length blocks
   pub whole : _≡_ {A = Buffers} (record { state = state; report = report; journal = journal; events = events })
-      (servedTo blocks frame i (record { state = state₀; report = report₀; journal = journal₀; events = 0 }))
+      (servedTo blocks told i (record { state = state₀; report = report₀; journal = journal₀; events = 0 }))
 
-pub serving-start : (blocks : List Block) (frame state report journal : List ℕ) → Serving blocks frame state report journal 0 state report journal 0
+pub serving-start : (blocks : List Block) (told : Told) (state report journal : List ℕ) → Serving blocks told state report journal 0 state report journal 0
 unfolding servedTo
-serving-start blocks frame state report journal = record { within = omega arith; whole = refl }
+serving-start blocks told state report journal = record { within = omega arith; whole = refl }
 
-module _ (blocks : List Block) (frame state₀ report₀ journal₀ : List ℕ) (i : ℕ) (state report journal : List ℕ) (events : ℕ)
-    (h : Serving blocks frame state₀ report₀ journal₀ i state report journal events) where
-  pub serving-sized : StateFits blocks state₀ → GivenFits blocks frame report₀ journal₀
+module _ (blocks : List Block) (told : Told) (state₀ report₀ journal₀ : List ℕ) (i : ℕ) (state report journal : List ℕ) (events : ℕ)
+    (h : Serving blocks told state₀ report₀ journal₀ i state report journal events) where
+  pub serving-sized : StateFits blocks state₀ → GivenFits blocks told report₀ journal₀
       → (length state ≡ length state₀) × (length report ≡ length report₀) × (length journal ≡ length journal₀) × (events ≤ 2 * i)
   serving-sized s g = (
-    ap (λ (b : Buffers). length (b .state)) (h .whole) ∙ state-length blocks frame state₀ report₀ journal₀ (s .sized) i (h .within),
-    ap (λ (b : Buffers). length (b .report)) (h .whole) ∙ report-sized blocks frame state₀ report₀ journal₀ s g i (h .within),
-    ap (λ (b : Buffers). length (b .journal)) (h .whole) ∙ journal-sized blocks frame state₀ report₀ journal₀ s g i (h .within),
-    rw (ap (λ (b : Buffers). b .events) (h .whole)) (few blocks frame state₀ report₀ journal₀ s g i (h .within)),
+    ap (λ (b : Buffers). length (b .state)) (h .whole) ∙ state-length blocks told state₀ report₀ journal₀ (s .sized) i (h .within),
+    ap (λ (b : Buffers). length (b .report)) (h .whole) ∙ report-sized blocks told state₀ report₀ journal₀ (g .reportSized) i (h .within),
+    ap (λ (b : Buffers). length (b .journal)) (h .whole) ∙ journal-sized blocks told state₀ report₀ journal₀ s g i (h .within),
+    rw (ap (λ (b : Buffers). b .events) (h .whole)) (few blocks told state₀ report₀ journal₀ s g i (h .within)),
   )
 
   -- the record of the next block is the one from before
   serving-record : StateFits blocks state₀ → part recordLength i state ≡ part recordLength i state₀
   serving-record s =
-      ap (λ (b : Buffers). part recordLength i (b .state)) (h .whole) ∙ state-later blocks frame state₀ report₀ journal₀ (s .sized) i i (h .within) (omega arith)
+      ap (λ (b : Buffers). part recordLength i (b .state)) (h .whole) ∙ state-later blocks told state₀ report₀ journal₀ (s .sized) i i (h .within) (omega arith)
 
-  module _ (kind : ℕ) (start abort : Wire) (ek : kind ≡ blockAt blocks i .kind) (es : start ≡ blockAt blocks i .start) (ea : abort ≡ blockAt blocks i .abort) where
-    served-as : (b : Buffers) → served (untagged kind start abort) i frame b ≡ served (blockAt blocks i) i frame b
-    unfolding served callIn inputsOf
-    served-as b = rw (ek, es, ea)
-
+  -- `b` is what a call reads of the next block
+  module _ (b : Wiring) (eb : b ≡ wiringAt blocks i) where
     pub serving-on : (newState newReport newJournal : List ℕ) (count : ℕ) → i < length blocks
         → _≡_ {A = Buffers} (record { state = newState; report = newReport; journal = newJournal; events = count })
-        (served (untagged kind start abort) i frame (record { state = state; report = report; journal = journal; events = events }))
-        → Serving blocks frame state₀ report₀ journal₀ (i + 1) newState newReport newJournal count
+        (served b i (told .frame) (record { state = state; report = report; journal = journal; events = events }))
+        → Serving blocks told state₀ report₀ journal₀ (i + 1) newState newReport newJournal count
     unfolding servedTo
     serving-on newState newReport newJournal count l e =
-        rw add-one (record { within = l; whole = e ∙ served-as _ ∙ ap (served (blockAt blocks i) i frame) (h .whole) })
+        rw add-one (record { within = l; whole = rw eb at e ∙ ap (served (wiringAt blocks i) i (told .frame)) (h .whole) })
 
     -- the next block of an accepted table can be called
-    pub serving-callable : (image : List ℕ) (n : ℕ) → checkOf image ≡ Blocks n → blocks ≡ blocksOf image → StateFits blocks state₀ → GivenFits blocks frame report₀ journal₀ → i < n
-        → (Callable kind i frame state × Reached start abort state) × ((12 * i + 12 ≤ length report) × (8 * events + 16 ≤ length journal))
-    serving-callable image n ok eb s g l =
+    pub serving-callable : (image : List ℕ) (n : ℕ) → checkOf image ≡ Blocks n → blocks ≡ blocksOf image → StateFits blocks state₀ → GivenFits blocks told report₀ journal₀ → i < n
+        → (Callable (b .kind) i (told .frame) state × Reached b state) × ((reportLength * i + reportLength ≤ length report) × (eventLength * events + 2 * eventLength ≤ length journal))
+    serving-callable image n ok from s g l =
         let z = serving-sized s g in
-        let c : length blocks ≡ n = ap length eb ∙ accepted-blocks image n ok in (
+        let c : length blocks ≡ n = ap length from ∙ accepted-blocks image n ok in (
           (
             record {
               few = omega (arith, accepted-few image n ok);
               own = omega (arith, z .0, s .sized);
               entry = omega (arith, g .frameSized);
-              isSound = rw (ek, serving-record s) (s .sound i (omega arith));
-              pieces = count-few (entryIn frame i) (entry-fits (part entryLength i frame) (g .form i (omega arith)));
+              isSound = rw (eb, serving-record s) (s .sound i (omega arith));
+              pieces = count-few (entryIn (told .frame) i) (entry-fits (part entryLength i (told .frame)) (g .form i (omega arith)));
             },
             record {
-              start = rw (es, eb) (omega (arith, z .0, s .sized, accepted-start image n ok i l .within));
-              abort = rw (ea, eb) (omega (arith, z .0, s .sized, accepted-abort image n ok i l .within));
+              start = rw (eb, from) (omega (arith, z .0, s .sized, accepted-start image n ok i l .within));
+              abort = rw (eb, from) (omega (arith, z .0, s .sized, accepted-abort image n ok i l .within));
             },
           ),
           (

@@ -1,5 +1,5 @@
 -- Checks 21 and 31, each law for both, over the test of a block and the check's number: they pass exactly where each block's test does, fail
--- within bounds, and as loops, what is left of the blocks gives the whole verdict. For the proofs of `check_state` and `check_frame`, and for the
+-- within bounds, and as loops, what is left of the blocks gives the whole verdict. For the proofs of `check_sound` and `check_entries`, and for the
 -- laws of accepted scans and of refusals.
 use Prim.Native.Nat.{ℕ, zero, suc, _+_, _≤_, _<_}
 use native.Mathlib.Nat.{add-zero}
@@ -70,10 +70,10 @@ module _ (test : ℕ → Block → Bool) (number : ℕ) (check : ℕ → List Bl
 abbrev pub stateTest : List ℕ → ℕ → Block → Bool
 stateTest state i b = soundBytes (b .kind) (part recordLength i state)
 
-abbrev pub stateCheck : List ℕ → ℕ → List Block → Verdict
-stateCheck state i bs = stateSound i bs state
+abbrev pub soundFrom : List ℕ → ℕ → List Block → Verdict
+soundFrom state i bs = stateSound i bs state
 
-pub state-each : (state : List ℕ) → Each (stateTest state) 21 (stateCheck state)
+pub state-each : (state : List ℕ) → Each (stateTest state) 21 (soundFrom state)
 unfolding stateSound
 state-each state = record { none = λ i. refl; one = λ i b bs. refl }
 
@@ -81,9 +81,9 @@ state-each state = record { none = λ i. refl; one = λ i b bs. refl }
 abbrev pub frameTest : List ℕ → ℕ → Block → Bool
 frameTest frame i b = entryBytes (part entryLength i frame)
 
-abbrev pub frameCheck : List ℕ → ℕ → List Block → Verdict
-frameCheck frame i bs = frameForm i bs frame
+abbrev pub formFrom : List ℕ → ℕ → List Block → Verdict
+formFrom frame i bs = frameForm i bs frame
 
-pub frame-each : (frame : List ℕ) → Each (frameTest frame) 31 (frameCheck frame)
+pub frame-each : (frame : List ℕ) → Each (frameTest frame) 31 (formFrom frame)
 unfolding frameForm
 frame-each frame = record { none = λ i. refl; one = λ i b bs. refl }

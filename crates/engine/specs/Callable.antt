@@ -4,7 +4,7 @@ use mathlib.Core.Bool.{true}
 use mathlib.Core.List.{List}
 use mathlib.Core.Path.{_≡_}
 use lib.ListN.{length}
-use Rattle.table.specs.declared.blocks.Wire.{Wire}
+use Rattle.table.specs.declared.blocks.Wiring.{Wiring}
 use Rattle.layout.specs.Buffer.{recordLength, entryLength, part}
 use Rattle.layout.specs.RecordLayout.{soundBytes}
 use Rattle.engine.specs.Serve.{entryIn}
@@ -18,6 +18,6 @@ pub record Callable (kind i : ℕ) (frame state : List ℕ) : Type 0 where
   pub pieces : entryIn frame i .count ≤ 4
 
 -- its wires
-pub record Reached (s a : Wire) (state : List ℕ) : Type 0 where
-  pub start : recordLength * s .position ≤ length state
-  pub abort : recordLength * a .position ≤ length state
+pub record Reached (b : Wiring) (state : List ℕ) : Type 0 where
+  pub start : recordLength * b .start .position ≤ length state
+  pub abort : recordLength * b .abort .position ≤ length state

@@ -2,20 +2,17 @@
 use Prim.Native.Nat.{ℕ}
 use mathlib.Core.List.{List}
 use lib.ListN.{length, replicate}
-use Rattle.table.specs.Place.{placeNumber, Answer, value, refusal}
 use Rattle.table.specs.Check.{checkOf}
 use Rattle.table.specs.Blocks.{Block, blocksOf}
 use Rattle.table.specs.declared.place.Verdict.{Verdict}
 use Rattle.table.specs.declared.place.Verdict.the-variants.{Passed, Failed}
 use Rattle.table.specs.declared.check.Checked.{Checked}
-use Rattle.table.specs.declared.check.Checked.the-variants.{Blocks as TableBlocks, Refused as TableRefused}
+use Rattle.table.specs.declared.check.Checked.the-variants.{Blocks, Refused}
 use Rattle.engine.specs.Verify.{stateLength}
-use Rattle.engine.specs.declared.answer.Freshened.{Freshened}
-use Rattle.engine.specs.declared.answer.Freshened.the-variants.{Blocks, Refused}
 
 -- what fresh answers and leaves in the lent buffer
 pub record FreshResult : Type 0 where
-  pub answer : Freshened
+  pub answer : Checked
   pub state : List ℕ
 
 -- "An accepted table check, and a fresh state made, answer the number of blocks." A refusal leaves the buffer untouched.
@@ -25,13 +22,8 @@ freshBy (Failed number place) n state = record { answer = Refused number place; 
 
 -- "Every entry point makes the table checks, 1 to 11, first; then fresh makes 20"
 abbrev pub freshAfter : Checked → List Block → List ℕ → FreshResult
-freshAfter (TableBlocks n) blocks state = freshBy (stateLength blocks state Passed) n state
-freshAfter (TableRefused number place) blocks state = record { answer = Refused number place; state = state }
+freshAfter (Blocks n) blocks state = freshBy (stateLength blocks state Passed) n state
+freshAfter (Refused number place) blocks state = record { answer = Refused number place; state = state }
 
 unfoldable pub freshOf : List ℕ → List ℕ → FreshResult
 freshOf image state = freshAfter (checkOf image) (blocksOf image) state
-
--- document 01's number and place, or value, of each case
-abbrev pub freshAnswer : Freshened → Answer
-freshAnswer (Blocks n) = value n
-freshAnswer (Refused number place) = refusal number (placeNumber place)

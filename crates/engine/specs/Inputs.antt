@@ -3,8 +3,8 @@ use Prim.Native.Nat.{ℕ, _-_}
 use mathlib.Core.Bool.{Bool, not, cond}
 use mathlib.Core.List.{List}
 use lib.Dec.{eqb}
-use Rattle.table.specs.Blocks.{Block}
 use Rattle.table.specs.declared.blocks.Wire.{Wire}
+use Rattle.table.specs.declared.blocks.Wiring.{Wiring}
 use Rattle.layout.specs.Buffer.{recordLength, part}
 use Rattle.layout.specs.RecordLayout.{decodeRecord}
 use Rattle.block.specs.declared.record.Flags.{Flags}
@@ -28,5 +28,6 @@ inputOf w flags bit =
 abbrev pub wired : Wire → Wire → (ℕ → Flags) → Inputs → Inputs
 wired start abort flags bits = record { start = inputOf start flags (bits .start); abort = inputOf abort flags (bits .abort) }
 
-unfoldable pub inputsOf : Block → (ℕ → Flags) → Inputs → Inputs
+-- the inputs of a block
+unfoldable pub inputsOf : Wiring → (ℕ → Flags) → Inputs → Inputs
 inputsOf b flags bits = wired (b .start) (b .abort) flags bits

@@ -1,3 +1,4 @@
+pub mod Told
 pub mod Verify
 pub mod Inputs
 pub mod Serve
@@ -5,6 +6,3 @@ pub mod Callable
 pub mod Fresh
 pub mod Scan
 pub mod ScanAccepted
-pub mod Scans
-pub mod RunInvariant
-pub mod RunExamples

@@ -1,4 +1,5 @@
 -- Document 01: one scan, over the buffers as they are at entry.
+use Rattle.engine.specs.Told.{Told}
 use Prim.Native.Nat.{ℕ}
 use mathlib.Core.List.{List}
 use lib.ListN.{length}
@@ -12,8 +13,8 @@ use Rattle.table.specs.declared.check.Checked.{Checked}
 use Rattle.table.specs.declared.check.Checked.the-variants.{Blocks as TableBlocks, Refused as TableRefused}
 use Rattle.engine.specs.Verify.{verifyOf}
 use Rattle.engine.specs.Serve.{Buffers, servedTo}
-use Rattle.engine.specs.declared.answer.Scanned.{Scanned}
-use Rattle.engine.specs.declared.answer.Scanned.the-variants.{Events, Refused}
+use Rattle.engine.specs.declared.scan.Scanned.{Scanned}
+use Rattle.engine.specs.declared.scan.Scanned.the-variants.{Events, Refused}
 
 -- what a scan answers and leaves in the lent buffers
 pub record ScanResult : Type 0 where
@@ -21,6 +22,16 @@ pub record ScanResult : Type 0 where
   pub state : List ℕ
   pub report : List ℕ
   pub journal : List ℕ
+
+-- the answer before any block is called: a refusal of the table, unchanged, or no event so far
+abbrev pub answerByTable : Checked → Scanned
+answerByTable (TableBlocks n) = Events 0
+answerByTable (TableRefused number place) = Refused number place
+
+-- the same, by the checks below the table's
+abbrev pub answerByChecks : Verdict → Scanned
+answerByChecks Passed = Events 0
+answerByChecks (Failed number place) = Refused number place
 
 -- "Nothing is written before the last check": a refusal leaves every lent buffer untouched
 abbrev pub untouched : ℕ → Place → List ℕ → List ℕ → List ℕ → ScanResult
@@ -31,23 +42,23 @@ abbrev pub scanned : Buffers → ScanResult
 scanned b = record { answer = Events (b .events); state = b .state; report = b .report; journal = b .journal }
 
 -- "An accepted scan calls each block once, in chain order; a refused one calls none and has no events."
-abbrev pub scanBy : Verdict → List Block → List ℕ → List ℕ → List ℕ → List ℕ → ScanResult
-scanBy Passed blocks state frame report journal =
-    scanned (servedTo blocks frame (length blocks) (record { state = state; report = report; journal = journal; events = 0 }))
-scanBy (Failed number place) blocks state frame report journal = untouched number place state report journal
+abbrev pub scanBy : Verdict → List Block → List ℕ → Told → List ℕ → List ℕ → ScanResult
+scanBy Passed blocks state told report journal =
+    scanned (servedTo blocks told (length blocks) (record { state = state; report = report; journal = journal; events = 0 }))
+scanBy (Failed number place) blocks state told report journal = untouched number place state report journal
 
 -- the scan over a table as a list of blocks
-unfoldable pub scanBlocks : List Block → List ℕ → List ℕ → List ℕ → List ℕ → ScanResult
-scanBlocks blocks state frame report journal =
-    scanBy (verifyOf blocks state frame report journal) blocks state frame report journal
+unfoldable pub scanBlocks : List Block → List ℕ → Told → List ℕ → List ℕ → ScanResult
+scanBlocks blocks state told report journal =
+    scanBy (verifyOf blocks state told report journal) blocks state told report journal
 
 -- "the scan goes on only with a table that was accepted"
-abbrev pub scanAfter : Checked → List Block → List ℕ → List ℕ → List ℕ → List ℕ → ScanResult
-scanAfter (TableBlocks n) blocks state frame report journal = scanBlocks blocks state frame report journal
-scanAfter (TableRefused number place) blocks state frame report journal = untouched number place state report journal
+abbrev pub scanAfter : Checked → List Block → List ℕ → Told → List ℕ → List ℕ → ScanResult
+scanAfter (TableBlocks n) blocks state told report journal = scanBlocks blocks state told report journal
+scanAfter (TableRefused number place) blocks state told report journal = untouched number place state report journal
 
-unfoldable pub scanOf : List ℕ → List ℕ → List ℕ → List ℕ → List ℕ → ScanResult
-scanOf image state frame report journal = scanAfter (checkOf image) (blocksOf image) state frame report journal
+unfoldable pub scanOf : List ℕ → List ℕ → Told → List ℕ → List ℕ → ScanResult
+scanOf image state told report journal = scanAfter (checkOf image) (blocksOf image) state told report journal
 
 -- document 01's number and place, or value, of each case
 abbrev pub scanAnswer : Scanned → Answer

@@ -1,16 +1,17 @@
 -- Document 01, "An accepted scan calls each block once, in chain order": one block's step over the lent buffers.
+use Rattle.engine.specs.Told.{Told}
 use Prim.Native.Nat.{ℕ, zero, suc, _+_, _*_}
 use mathlib.Core.Bool.{Bool, not, _&&_}
-use mathlib.Core.List.{List, []}
+use mathlib.Core.List.{List}
 use lib.Dec.{eqb}
 use lib.ListN.{length}
-use Rattle.table.specs.Blocks.{Block, blockAt}
+use Rattle.table.specs.Blocks.{Block, wiringAt}
 use Rattle.layout.specs.Buffer.{recordLength, entryLength, reportLength, eventLength, part, put}
 use Rattle.layout.specs.RecordLayout.{encodeRecord, decodeRecord}
 use Rattle.layout.specs.EntryLayout.{decodeEntry}
 use Rattle.layout.specs.ReportLayout.{encodeReport}
 use Rattle.layout.specs.EventLayout.{encodeEvents}
-use Rattle.table.specs.declared.blocks.Wire.{Wire}
+use Rattle.table.specs.declared.blocks.Wiring.{Wiring}
 use Rattle.block.specs.Record.{Dormant}
 use Rattle.block.specs.Call.{Outcome, callOf}
 use Rattle.block.specs.declared.record.Record.{Record}
@@ -31,16 +32,12 @@ recordIn state i = decodeRecord (part recordLength i state)
 abbrev pub entryIn : List ℕ → ℕ → Entry
 entryIn frame i = decodeEntry (part entryLength i frame)
 
--- a block without its tag, which no call reads
-abbrev pub untagged : ℕ → Wire → Wire → Block
-untagged kind start abort = record { kind = kind; tag = []; start = start; abort = abort }
-
 -- whether a block is idle: Dormant, and its start false
 abbrev pub idle : Inputs → Record → Bool
 idle i r = eqb (r .step) Dormant && not (i .start)
 
 -- the call of the block at index i: "A wired input reads that flag as it stands when the block is called"
-unfoldable pub callIn : Block → ℕ → List ℕ → List ℕ → Outcome
+unfoldable pub callIn : Wiring → ℕ → List ℕ → List ℕ → Outcome
 callIn b i frame state =
     callOf (b .kind) (inputsOf b (flagsIn state) (entryIn frame i .inputs)) (entryIn frame i) (recordIn state i)
 
@@ -55,10 +52,10 @@ written i o b =
       events = b .events + length (o .events);
     }
 
-unfoldable pub served : Block → ℕ → List ℕ → Buffers → Buffers
+unfoldable pub served : Wiring → ℕ → List ℕ → Buffers → Buffers
 served b i frame buffers = written i (callIn b i frame (buffers .state)) buffers
 
 -- the first n blocks, each called once, in chain order
-unfoldable pub servedTo : List Block → List ℕ → ℕ → Buffers → Buffers
-servedTo blocks frame zero buffers = buffers
-servedTo blocks frame (suc i) buffers = served (blockAt blocks i) i frame (servedTo blocks frame i buffers)
+unfoldable pub servedTo : List Block → Told → ℕ → Buffers → Buffers
+servedTo blocks told zero buffers = buffers
+servedTo blocks told (suc i) buffers = served (wiringAt blocks i) i (told .frame) (servedTo blocks told i buffers)

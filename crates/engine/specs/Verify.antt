@@ -1,4 +1,5 @@
 -- Document 01, "Turned back": checks 20 to 41, from the top down.
+use Rattle.engine.specs.Told.{Told}
 use Prim.Native.Nat.{ℕ, suc, _*_}
 use mathlib.Core.List.{List, [], _∷_}
 use lib.Dec.{eqb, leb}
@@ -21,6 +22,10 @@ unfoldable pub stateSound : ℕ → List Block → List ℕ → Verdict
 stateSound i [] state = Passed
 stateSound i (b ∷ bs) state = require (soundBytes (b .kind) (part recordLength i state)) 21 (Position (suc i)) (stateSound (suc i) bs state)
 
+-- the checks of a state
+abbrev pub stateCheck : List Block → List ℕ → Verdict
+stateCheck blocks state = stateLength blocks state (stateSound 0 blocks state)
+
 -- 30: "length not 56 × blocks"
 abbrev pub frameLength : List Block → List ℕ → Verdict → Verdict
 frameLength blocks frame below = require (eqb (length frame) (entryLength * length blocks)) 30 Header below
@@ -30,6 +35,10 @@ unfoldable pub frameForm : ℕ → List Block → List ℕ → Verdict
 frameForm i [] frame = Passed
 frameForm i (b ∷ bs) frame = require (entryBytes (part entryLength i frame)) 31 (Position (suc i)) (frameForm (suc i) bs frame)
 
+-- the checks of a frame
+abbrev pub frameCheck : List Block → List ℕ → Verdict
+frameCheck blocks frame = frameLength blocks frame (frameForm 0 blocks frame)
+
 -- 40: "length not 12 × blocks"
 abbrev pub reportLengthIs : List Block → List ℕ → Verdict → Verdict
 reportLengthIs blocks report below = require (eqb (length report) (reportLength * length blocks)) 40 Header below
@@ -38,12 +47,13 @@ reportLengthIs blocks report below = require (eqb (length report) (reportLength 
 abbrev pub journalLength : List Block → List ℕ → Verdict → Verdict
 journalLength blocks journal below = require (leb (2 * eventLength * length blocks) (length journal)) 41 Header below
 
+-- the checks of the report and the journal
+abbrev pub lentCheck : List Block → List ℕ → List ℕ → Verdict
+lentCheck blocks report journal = reportLengthIs blocks report (journalLength blocks journal Passed)
+
 -- "then ... the scan 20 to 41"; "Checks run from the top down, the first that fails is given"
-unfoldable pub verifyOf : List Block → List ℕ → List ℕ → List ℕ → List ℕ → Verdict
-verifyOf blocks state frame report journal =
-    stateLength blocks state
-    (andThen (stateSound 0 blocks state)
-    (frameLength blocks frame
-    (andThen (frameForm 0 blocks frame)
-    (reportLengthIs blocks report
-    (journalLength blocks journal Passed)))))
+unfoldable pub verifyOf : List Block → List ℕ → Told → List ℕ → List ℕ → Verdict
+verifyOf blocks state told report journal =
+    andThen (stateCheck blocks state)
+    (andThen (frameCheck blocks (told .frame))
+    (lentCheck blocks report journal))

@@ -6,6 +6,7 @@ use table::blocks::Wire;
 ghost use mathlib.Core.Path.{_≡_};
 ghost use Prim.Native.Nat.{_*_, _≤_};
 ghost use lib.ListN.{length};
+ghost use Rattle.layout.specs.Buffer.{recordLength};
 ghost use Rattle.engine.specs.Inputs.{flagsIn, flagOf, inputOf, wired};
 
 // Flag 0 busy, 1 done, 2 error, else aborted.
@@ -26,7 +27,7 @@ fn flag_of(n: u8, f: Flags) -> bool
 
 // One input: the frame's bit, or a flag as it stands in the state.
 fn input_of(w: Wire, state: &[u8], bit: bool) -> bool
-    requires { ⌜ 32 * w .position ≤ length (now state) ⌝ }
+    requires { ⌜ recordLength * w .position ≤ length (now state) ⌝ }
     ensures { λ r. ⌜ r ≡ inputOf w (flagsIn (now (state .entry))) bit ⌝ }
 {
     let position = w.position;
@@ -44,7 +45,7 @@ fn input_of(w: Wire, state: &[u8], bit: bool) -> bool
 
 // Both inputs, from two wires and the frame's bits.
 pub fn wired(start: Wire, abort: Wire, state: &[u8], bits: Inputs) -> Inputs
-    requires { ⌜ (32 * start .position ≤ length (now state)) × (32 * abort .position ≤ length (now state)) ⌝ }
+    requires { ⌜ (recordLength * start .position ≤ length (now state)) × (recordLength * abort .position ≤ length (now state)) ⌝ }
     ensures { λ r. ⌜ r ≡ wired start abort (flagsIn (now (state .entry))) bits ⌝ }
 {
     Inputs {

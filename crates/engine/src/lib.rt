@@ -1,5 +1,4 @@
 // Fresh and the scan: the entry points over lent buffers.
-pub mod answer; // what fresh and scan answer
 pub mod verify; // checks 20 to 41, which only read
 pub mod inputs; // wires and frame to the inputs of a call
 pub mod serve; // one block's step

@@ -7,31 +7,33 @@ use layout::entry::ENTRY_BYTES;
 use layout::event::EVENT_BYTES;
 use layout::record::RECORD_BYTES;
 use layout::report::REPORT_BYTES;
-use table::blocks::Wire;
+use table::blocks::Wiring;
 ghost use mathlib.Core.Path.{_≡_};
 ghost use Prim.Native.Nat.{_+_, _*_, _≤_, _<_};
 ghost use lib.ListN.{length};
 ghost use Rattle.block.specs.Call.{callOf};
 ghost use Rattle.block.specs.CallResult.{outcomeOf};
-ghost use Rattle.layout.specs.Buffer.{put};
+ghost use Rattle.layout.specs.Buffer.{recordLength, entryLength, reportLength, eventLength, put};
 ghost use Rattle.layout.specs.ReportLayout.{encodeReport};
 ghost use Rattle.layout.specs.EventLayout.{encodeEvents};
-ghost use Rattle.engine.specs.Inputs.{flagsIn, wired};
-ghost use Rattle.engine.specs.Serve.{recordIn, entryIn, untagged, idle, written, served};
+ghost use Rattle.engine.specs.Inputs.{flagsIn, inputsOf};
+ghost use Rattle.engine.specs.Serve.{recordIn, entryIn, idle, written, served};
 ghost use Rattle.engine.specs.Callable.{Callable, Reached};
 
 // The inputs of the block at index i: its wires, else the bits of its entry.
-fn inputs_at(start: Wire, abort: Wire, i: usize, frame: &[u8], state: &[u8]) -> Inputs
-    requires { ⌜ (56 * i < length (now frame)) × Reached start abort (now state) ⌝ }
-    ensures { λ r. ⌜ r ≡ wired start abort (flagsIn (now (state .entry))) (entryIn (now (frame .entry)) i .inputs) ⌝ }
+fn inputs_at(b: Wiring, i: usize, frame: &[u8], state: &[u8]) -> Inputs
+    requires { ⌜ (entryLength * i < length (now frame)) × Reached b (now state) ⌝ }
+    ensures { λ r. ⌜ r ≡ inputsOf b (flagsIn (now (state .entry))) (entryIn (now (frame .entry)) i .inputs) ⌝ }
 {
     let bits = layout::entry::decode_inputs(frame[ENTRY_BYTES * i]);
+    let start = b.start;
+    let abort = b.abort;
     wired(start, abort, state, bits)
 }
 
 // Whether the block at index i is Dormant and its start false.
 fn is_idle(inputs: Inputs, i: usize, state: &[u8]) -> bool
-    requires { ⌜ 32 * i < length (now state) ⌝ }
+    requires { ⌜ recordLength * i < length (now state) ⌝ }
     ensures { λ r. ⌜ r ≡ idle inputs (recordIn (now (state .entry)) i) ⌝ }
 {
     (state[RECORD_BYTES * i] == Record::DORMANT) & !inputs.start
@@ -53,8 +55,8 @@ fn call_at(kind: u8, inputs: Inputs, i: usize, frame: &[u8], state: &[u8]) -> Ca
 
 // The block's own twelve bytes of the report become the entry of a call.
 fn report_call(report: &mut [u8], i: usize, a: CallResult)
-    requires { ⌜ 12 * i + 12 ≤ length (now report) ⌝ }
-    ensures { λ _. ⌜ now (report .exit) ≡ put (12 * i) (encodeReport (outcomeOf a)) (now (report .entry)) ⌝ }
+    requires { ⌜ reportLength * i + reportLength ≤ length (now report) ⌝ }
+    ensures { λ _. ⌜ now (report .exit) ≡ put (reportLength * i) (encodeReport (outcomeOf a)) (now (report .entry)) ⌝ }
 {
     let own = REPORT_BYTES * i;
     layout::report::write_report(&mut report[own..], a);
@@ -62,9 +64,9 @@ fn report_call(report: &mut [u8], i: usize, a: CallResult)
 
 // The events of a call are appended to the journal; the number of events now in it.
 fn append_events(journal: &mut [u8], events: usize, position: u8, a: CallResult) -> usize
-    requires { ⌜ 8 * events + 16 ≤ length (now journal) ⌝ }
+    requires { ⌜ eventLength * events + 2 * eventLength ≤ length (now journal) ⌝ }
     ensures count { λ r. ⌜ r ≡ events + length (outcomeOf a .events) ⌝ }
-    ensures journal { λ _. ⌜ now (journal .exit) ≡ put (8 * events) (encodeEvents position (outcomeOf a .events)) (now (journal .entry)) ⌝ }
+    ensures journal { λ _. ⌜ now (journal .exit) ≡ put (eventLength * events) (encodeEvents position (outcomeOf a .events)) (now (journal .entry)) ⌝ }
 {
     if a.count == 0 {
         return events;
@@ -91,7 +93,7 @@ fn write_call(
     journal: &mut [u8],
     events: usize,
 ) -> usize
-    requires { ⌜ (i < 64) × (32 * i + 32 ≤ length (now state)) × (12 * i + 12 ≤ length (now report)) × (8 * events + 16 ≤ length (now journal)) ⌝ }
+    requires { ⌜ (i < 64) × (recordLength * i + recordLength ≤ length (now state)) × (reportLength * i + reportLength ≤ length (now report)) × (eventLength * events + 2 * eventLength ≤ length (now journal)) ⌝ }
     ensures { λ r. ⌜ record { state = now (state .exit); report = now (report .exit); journal = now (journal .exit); events = r } ≡ written i (outcomeOf a) (record { state = now (state .entry); report = now (report .entry); journal = now (journal .entry); events = events }) ⌝ }
 {
     let next = a.next;
@@ -102,9 +104,7 @@ fn write_call(
 
 // The block at index i is served; the number of events now in the journal. An idle block's record is only read, and stays in its place.
 pub fn serve(
-    kind: u8,
-    start: Wire,
-    abort: Wire,
+    b: Wiring,
     i: usize,
     frame: &[u8],
     state: &mut [u8],
@@ -112,15 +112,15 @@ pub fn serve(
     journal: &mut [u8],
     events: usize,
 ) -> usize
-    requires { ⌜ Callable kind i (now frame) (now state) × Reached start abort (now state) ⌝ }
-    requires { ⌜ (12 * i + 12 ≤ length (now report)) × (8 * events + 16 ≤ length (now journal)) ⌝ }
-    ensures { λ r. ⌜ record { state = now (state .exit); report = now (report .exit); journal = now (journal .exit); events = r } ≡ served (untagged kind start abort) i (now (frame .entry)) (record { state = now (state .entry); report = now (report .entry); journal = now (journal .entry); events = events }) ⌝ }
+    requires { ⌜ Callable (b .kind) i (now frame) (now state) × Reached b (now state) ⌝ }
+    requires { ⌜ (reportLength * i + reportLength ≤ length (now report)) × (eventLength * events + 2 * eventLength ≤ length (now journal)) ⌝ }
+    ensures { λ r. ⌜ record { state = now (state .exit); report = now (report .exit); journal = now (journal .exit); events = r } ≡ served b i (now (frame .entry)) (record { state = now (state .entry); report = now (report .entry); journal = now (journal .entry); events = events }) ⌝ }
 {
-    let inputs = inputs_at(start, abort, i, frame, &state[..]);
+    let inputs = inputs_at(b, i, frame, &state[..]);
     if is_idle(inputs, i, &state[..]) {
         report_call(report, i, CallResult::idle());
         return events;
     }
-    let a = call_at(kind, inputs, i, frame, &state[..]);
+    let a = call_at(b.kind, inputs, i, frame, &state[..]);
     write_call(i, a, state, report, journal, events)
 }

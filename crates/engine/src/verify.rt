@@ -11,10 +11,11 @@ ghost use Prim.Native.Nat.{_*_, _≤_};
 ghost use lib.ListN.{length};
 ghost use Rattle.table.specs.Check.{Accepted};
 ghost use Rattle.table.specs.Blocks.{Block, blocksOf};
-ghost use Rattle.engine.specs.Verify.{stateSound, frameForm, verifyOf};
+ghost use Rattle.layout.specs.Buffer.{recordLength, entryLength};
+ghost use Rattle.engine.specs.Verify.{stateSound, stateCheck, frameForm, frameCheck, lentCheck, verifyOf};
 
 // Check 21: the first position whose record is not sound.
-fn check_state(
+fn check_sound(
     image: &[u8],
     slots: &[u8; 64],
     positions: &[u8; 65],
@@ -22,7 +23,7 @@ fn check_state(
     state: &[u8],
 ) -> Verdict
     requires { ⌜ Accepted (now image) count (now slots) (now positions) ⌝ }
-    requires { ⌜ length (now state) ≡ 32 * count ⌝ }
+    requires { ⌜ length (now state) ≡ recordLength * count ⌝ }
     ensures { λ r. ⌜ r ≡ stateSound 0 (blocksOf (now (image .entry))) (now (state .entry)) ⌝ }
 {
     let mut i = 0;
@@ -38,10 +39,27 @@ fn check_state(
     Verdict::Passed
 }
 
+// Checks 20 and 21: a state of an accepted table.
+pub fn check_state(
+    image: &[u8],
+    slots: &[u8; 64],
+    positions: &[u8; 65],
+    count: usize,
+    state: &[u8],
+) -> Verdict
+    requires { ⌜ Accepted (now image) count (now slots) (now positions) ⌝ }
+    ensures { λ r. ⌜ r ≡ stateCheck (blocksOf (now (image .entry))) (now (state .entry)) ⌝ }
+{
+    if state.len() != RECORD_BYTES * count {
+        return Verdict::Failed(20, Place::Header);
+    }
+    check_sound(image, slots, positions, count, state)
+}
+
 // Check 31: the first position whose entry is not in form, whatever the blocks are.
-fn check_frame(frame: &[u8], count: usize) -> Verdict
+fn check_entries(frame: &[u8], count: usize) -> Verdict
     requires { ⌜ count ≤ 64 ⌝ }
-    requires { ⌜ length (now frame) ≡ 56 * count ⌝ }
+    requires { ⌜ length (now frame) ≡ entryLength * count ⌝ }
     ensures { λ r. ⌜ ((blocks : List Block) → length blocks ≡ count → r ≡ frameForm 0 blocks (now (frame .entry))) ⌝ }
 {
     let mut i = 0;
@@ -52,6 +70,31 @@ fn check_frame(frame: &[u8], count: usize) -> Verdict
             return Verdict::Failed(31, Place::Position((i + 1) as u8));
         }
         i += 1;
+    }
+    Verdict::Passed
+}
+
+// Checks 30 and 31: a frame for so many blocks.
+fn check_frame(frame: &[u8], count: usize) -> Verdict
+    requires { ⌜ count ≤ 64 ⌝ }
+    ensures { λ r. ⌜ ((blocks : List Block) → length blocks ≡ count → r ≡ frameCheck blocks (now (frame .entry))) ⌝ }
+{
+    if frame.len() != ENTRY_BYTES * count {
+        return Verdict::Failed(30, Place::Header);
+    }
+    check_entries(frame, count)
+}
+
+// Checks 40 and 41: a report and a journal for so many blocks.
+fn check_lent(report: &[u8], journal: &[u8], count: usize) -> Verdict
+    requires { ⌜ count ≤ 64 ⌝ }
+    ensures { λ r. ⌜ ((blocks : List Block) → length blocks ≡ count → r ≡ lentCheck blocks (now (report .entry)) (now (journal .entry))) ⌝ }
+{
+    if report.len() != REPORT_BYTES * count {
+        return Verdict::Failed(40, Place::Header);
+    }
+    if journal.len() < 2 * EVENT_BYTES * count {
+        return Verdict::Failed(41, Place::Header);
     }
     Verdict::Passed
 }
@@ -68,27 +111,15 @@ pub fn verify(
     journal: &[u8],
 ) -> Verdict
     requires { ⌜ Accepted (now image) count (now slots) (now positions) ⌝ }
-    ensures { λ r. ⌜ r ≡ verifyOf (blocksOf (now (image .entry))) (now (state .entry)) (now (frame .entry)) (now (report .entry)) (now (journal .entry)) ⌝ }
+    ensures { λ r. ⌜ r ≡ verifyOf (blocksOf (now (image .entry))) (now (state .entry)) (record { frame = now (frame .entry) }) (now (report .entry)) (now (journal .entry)) ⌝ }
 {
-    if state.len() != RECORD_BYTES * count {
-        return Verdict::Failed(20, Place::Header);
-    }
-    let sound = check_state(image, slots, positions, count, state);
-    let Verdict::Passed = sound else {
-        return sound;
+    let of_state = check_state(image, slots, positions, count, state);
+    let Verdict::Passed = of_state else {
+        return of_state;
     };
-    if frame.len() != ENTRY_BYTES * count {
-        return Verdict::Failed(30, Place::Header);
-    }
-    let form = check_frame(frame, count);
-    let Verdict::Passed = form else {
-        return form;
+    let of_frame = check_frame(frame, count);
+    let Verdict::Passed = of_frame else {
+        return of_frame;
     };
-    if report.len() != REPORT_BYTES * count {
-        return Verdict::Failed(40, Place::Header);
-    }
-    if journal.len() < 2 * EVENT_BYTES * count {
-        return Verdict::Failed(41, Place::Header);
-    }
-    Verdict::Passed
+    check_lent(report, journal, count)
 }

@@ -3,11 +3,10 @@ ghost use mathlib.Core.Path.{_≡_};
 ghost use Rattle.table.specs.Place.{placeNumber, refusal};
 ghost use Rattle.table.specs.Check.{checkOf, checkedAnswer};
 ghost use Rattle.table.specs.Lookup.{findOf, foundAnswer};
-ghost use Rattle.engine.specs.Fresh.{freshOf, freshAnswer};
+ghost use Rattle.engine.specs.Fresh.{freshOf};
 ghost use Rattle.engine.specs.Scan.{scanOf, scanAnswer};
-ghost use Rattle.lane.specs.Packed.{packed};
-use engine::answer::Freshened;
-use engine::answer::Scanned;
+ghost use Rattle.lane.specs.Packed.{packed, unpacked};
+use engine::scan::Scanned;
 use table::check::Checked;
 use table::lookup::Found;
 use table::place::Place;
@@ -37,15 +36,6 @@ fn pack_found(answer: Found) -> u64
     }
 }
 
-fn pack_freshened(answer: Freshened) -> u64
-    ensures { λ r. ⌜ r ≡ packed (freshAnswer answer) ⌝ }
-{
-    match answer {
-        Freshened::Blocks(blocks) => blocks as u64,
-        Freshened::Refused(number, place) => pack_refusal(number, place),
-    }
-}
-
 fn pack_scanned(answer: Scanned) -> u64
     ensures { λ r. ⌜ r ≡ packed (scanAnswer answer) ⌝ }
 {
@@ -58,7 +48,8 @@ fn pack_scanned(answer: Scanned) -> u64
 // Check a table: the number of its blocks, or the first check that fails.
 #[no_mangle]
 pub extern "C" fn lane_check(image: &[u8]) -> u64
-    ensures { λ r. ⌜ r ≡ packed (checkedAnswer (checkOf (now (image .entry)))) ⌝ }
+    ensures answer { λ r. ⌜ r ≡ packed (checkedAnswer (checkOf (now (image .entry)))) ⌝ }
+    ensures unpacks { λ r. ⌜ unpacked r ≡ checkedAnswer (checkOf (now (image .entry))) ⌝ }
 {
     pack_checked(table::check::check(image))
 }
@@ -66,10 +57,11 @@ pub extern "C" fn lane_check(image: &[u8]) -> u64
 // Make the lent state fresh: the number of blocks, or the first check that fails, which leaves the state untouched.
 #[no_mangle]
 pub extern "C" fn lane_fresh(image: &[u8], state: &mut [u8]) -> u64
-    ensures answer { λ r. ⌜ r ≡ packed (freshAnswer (freshOf (now (image .entry)) (now (state .entry)) .answer)) ⌝ }
+    ensures answer { λ r. ⌜ r ≡ packed (checkedAnswer (freshOf (now (image .entry)) (now (state .entry)) .answer)) ⌝ }
+    ensures unpacks { λ r. ⌜ unpacked r ≡ checkedAnswer (freshOf (now (image .entry)) (now (state .entry)) .answer) ⌝ }
     ensures state { λ _. ⌜ now (state .exit) ≡ freshOf (now (image .entry)) (now (state .entry)) .state ⌝ }
 {
-    pack_freshened(engine::fresh::fresh(image, state))
+    pack_checked(engine::fresh::fresh(image, state))
 }
 
 // Run one scan: the number of events written, or the first check that fails, which leaves every lent buffer untouched.
@@ -81,10 +73,11 @@ pub extern "C" fn lane_scan(
     report: &mut [u8],
     journal: &mut [u8],
 ) -> u64
-    ensures answer { λ r. ⌜ r ≡ packed (scanAnswer (scanOf (now (image .entry)) (now (state .entry)) (now (frame .entry)) (now (report .entry)) (now (journal .entry)) .answer)) ⌝ }
-    ensures state { λ _. ⌜ now (state .exit) ≡ scanOf (now (image .entry)) (now (state .entry)) (now (frame .entry)) (now (report .entry)) (now (journal .entry)) .state ⌝ }
-    ensures report { λ _. ⌜ now (report .exit) ≡ scanOf (now (image .entry)) (now (state .entry)) (now (frame .entry)) (now (report .entry)) (now (journal .entry)) .report ⌝ }
-    ensures journal { λ _. ⌜ now (journal .exit) ≡ scanOf (now (image .entry)) (now (state .entry)) (now (frame .entry)) (now (report .entry)) (now (journal .entry)) .journal ⌝ }
+    ensures answer { λ r. ⌜ r ≡ packed (scanAnswer (scanOf (now (image .entry)) (now (state .entry)) (record { frame = now (frame .entry) }) (now (report .entry)) (now (journal .entry)) .answer)) ⌝ }
+    ensures unpacks { λ r. ⌜ unpacked r ≡ scanAnswer (scanOf (now (image .entry)) (now (state .entry)) (record { frame = now (frame .entry) }) (now (report .entry)) (now (journal .entry)) .answer) ⌝ }
+    ensures state { λ _. ⌜ now (state .exit) ≡ scanOf (now (image .entry)) (now (state .entry)) (record { frame = now (frame .entry) }) (now (report .entry)) (now (journal .entry)) .state ⌝ }
+    ensures report { λ _. ⌜ now (report .exit) ≡ scanOf (now (image .entry)) (now (state .entry)) (record { frame = now (frame .entry) }) (now (report .entry)) (now (journal .entry)) .report ⌝ }
+    ensures journal { λ _. ⌜ now (journal .exit) ≡ scanOf (now (image .entry)) (now (state .entry)) (record { frame = now (frame .entry) }) (now (report .entry)) (now (journal .entry)) .journal ⌝ }
 {
     pack_scanned(engine::scan::scan(image, state, frame, report, journal))
 }
@@ -92,7 +85,8 @@ pub extern "C" fn lane_scan(
 // Find a tag: its position, or the first check that fails.
 #[no_mangle]
 pub extern "C" fn lane_find(image: &[u8], tag: &[u8]) -> u64
-    ensures { λ r. ⌜ r ≡ packed (foundAnswer (findOf (now (image .entry)) (now (tag .entry)))) ⌝ }
+    ensures answer { λ r. ⌜ r ≡ packed (foundAnswer (findOf (now (image .entry)) (now (tag .entry)))) ⌝ }
+    ensures unpacks { λ r. ⌜ unpacked r ≡ foundAnswer (findOf (now (image .entry)) (now (tag .entry))) ⌝ }
 {
     pack_found(table::lookup::find(image, tag))
 }

@@ -7,6 +7,7 @@ use lib.ListN.{getD}
 use Rattle.table.specs.Image.{kindOf, wireSlot, wireCode, startWire, abortWire, tagOf}
 use Rattle.table.specs.Chain.{chainOf, positionOf}
 use Rattle.table.specs.declared.blocks.Wire.{Wire}
+use Rattle.table.specs.declared.blocks.Wiring.{Wiring}
 
 -- "Wire slot 0 takes the input bit from the frame"
 abbrev pub fromFrame : Wire
@@ -48,3 +49,7 @@ noBlock = record { kind = 0; tag = []; start = fromFrame; abort = fromFrame }
 -- block i of some blocks, from 0
 abbrev pub blockAt : List Block → ℕ → Block
 blockAt blocks i = getD blocks i noBlock
+
+-- what a call reads of it: no call reads a tag
+abbrev pub wiringAt : List Block → ℕ → Wiring
+wiringAt blocks i = record { kind = blockAt blocks i .kind; start = blockAt blocks i .start; abort = blockAt blocks i .abort }

@@ -4,7 +4,7 @@ ghost use Prim.Native.Nat.{_<_};
 ghost use Rattle.table.specs.Image.{wireSlot, wireCode, HasSlot};
 ghost use Rattle.table.specs.Chain.{chainOf, Placed};
 ghost use Rattle.table.specs.Check.{Accepted};
-ghost use Rattle.table.specs.Blocks.{wireOf, blocksOf, blockAt};
+ghost use Rattle.table.specs.Blocks.{wireOf, blocksOf, blockAt, wiringAt};
 use crate::image::ABORT_WIRE;
 use crate::image::KIND;
 use crate::image::START_WIRE;
@@ -15,6 +15,13 @@ pub struct Wire {
     pub position: u8,
     pub flag: u8,
     pub inverted: bool,
+}
+
+// What a call reads of a block: its kind and its two wires.
+pub struct Wiring {
+    pub kind: u8,
+    pub start: Wire,
+    pub abort: Wire,
 }
 
 // A wire of a slot, by where its two bytes stand.
@@ -52,13 +59,7 @@ pub fn kind_at(image: &[u8], slots: &[u8; 64], positions: &[u8; 65], count: usiz
 }
 
 // The start wire of block i.
-pub fn start_wire(
-    image: &[u8],
-    slots: &[u8; 64],
-    positions: &[u8; 65],
-    count: usize,
-    i: usize,
-) -> Wire
+fn start_wire(image: &[u8], slots: &[u8; 64], positions: &[u8; 65], count: usize, i: usize) -> Wire
     requires { ⌜ Accepted (now image) count (now slots) (now positions) ⌝ }
     requires { ⌜ i < count ⌝ }
     ensures { λ r. ⌜ r ≡ blockAt (blocksOf (now (image .entry))) i .start ⌝ }
@@ -67,16 +68,28 @@ pub fn start_wire(
 }
 
 // The abort wire of block i; on a kind without abort, from the frame.
-pub fn abort_wire(
-    image: &[u8],
-    slots: &[u8; 64],
-    positions: &[u8; 65],
-    count: usize,
-    i: usize,
-) -> Wire
+fn abort_wire(image: &[u8], slots: &[u8; 64], positions: &[u8; 65], count: usize, i: usize) -> Wire
     requires { ⌜ Accepted (now image) count (now slots) (now positions) ⌝ }
     requires { ⌜ i < count ⌝ }
     ensures { λ r. ⌜ r ≡ blockAt (blocksOf (now (image .entry))) i .abort ⌝ }
 {
     wire_at(image, positions, slots[i], ABORT_WIRE)
+}
+
+// The kind and the wires of block i.
+pub fn wiring_at(
+    image: &[u8],
+    slots: &[u8; 64],
+    positions: &[u8; 65],
+    count: usize,
+    i: usize,
+) -> Wiring
+    requires { ⌜ Accepted (now image) count (now slots) (now positions) ⌝ }
+    requires { ⌜ i < count ⌝ }
+    ensures { λ r. ⌜ r ≡ wiringAt (blocksOf (now (image .entry))) i ⌝ }
+{
+    let kind = kind_at(image, slots, positions, count, i);
+    let start = start_wire(image, slots, positions, count, i);
+    let abort = abort_wire(image, slots, positions, count, i);
+    Wiring { kind, start, abort }
 }

@@ -16,24 +16,24 @@ enum-known-answer c = search needs
 enum-told : tie.Need-enum-told
 enum-told c = search needs
 
-table-refusal-requires : tie.Need-table-refusal-requires
-table-refusal-requires c κs = search needs
-
 returns : tie.Need-returns
 returns c =
-    let a = c .before .before .before .before .before .before .before .before .args in
-    let told = c .before .enum-told .given .1 in
-    fresh-refused (a .image .now) (a .state .now) _ (c .before .before .before .check-table .ensures .0) _ _ _ told (c .table-refusal .ensures _ _ told)
+    let entry = c .before .before .before .before .before .before .before in
+    let a = entry .args in
+    fresh-refused (a .image .now) (a .state .now) _ (c .before .before .check-table .ensures .0) _ _ (c .enum-told .given .1)
 
 mul-if1 : tie.Need-mul-if1
 mul-if1 c =
-    let a = c .before .before .before .before .before .before .before .before .args in
-    omega (arith, fresh-few (a .image .now) (a .state .now) _ (c .before .before .before .check-table .ensures .0) _ (c .before .answer .given .1))
+    let checked = c .before .before .before in
+    let a = checked .before .before .before .before .before .args in
+    omega (arith, fresh-few (a .image .now) (a .state .now) _ (checked .check-table .ensures .0) _ (c .before .answer .given .1))
 
 returns-2 : tie.Need-returns-2
 returns-2 c =
-    let a = c .before .before .before .before .before .before .before .before .before .args in
-    fresh-20 (a .image .now) (a .state .now) _ (c .before .before .before .before .check-table .ensures .0) _ (c .before .before .answer .given .1) (c .if1 .taken)
+    let accepted = c .before .before in
+    let checked = accepted .before .before in
+    let a = checked .before .before .before .before .before .args in
+    fresh-20 (a .image .now) (a .state .now) _ (checked .check-table .ensures .0) _ (accepted .answer .given .1) (c .if1 .taken)
 
 clear-requires : tie.Need-clear-requires
 clear-requires c κs = search needs
@@ -43,8 +43,12 @@ same-length c = c .before .before .clear .kept .0
 
 returns-3 : tie.Need-returns-3
 returns-3 c =
-    let a = c .before .before .before .before .before .before .before .before .before .before .before .before .before .args in
-    fresh-zeros (a .image .now) (a .state .now) _ (c .before .before .before .before .before .before .before .before .check-table .ensures .0) _ _ (c .before .before .before .before .before .before .answer .given .1) (c .before .before .before .before .if1 .left) (c .before .before .clear .ensures)
+    let cleared = c .before .before in
+    let accepted = cleared .before .before .before .before in
+    let checked = accepted .before .before in
+    let a = checked .before .before .before .before .before .args in
+    fresh-zeros (a .image .now) (a .state .now) _ (checked .check-table .ensures .0) _ _ (accepted .answer .given .1)
+    (cleared .before .before .if1 .left) (cleared .clear .ensures)
 
 pub fresh-spec : {M : Type 1} → statement M
 fresh-spec =
@@ -53,7 +57,6 @@ fresh-spec =
     check-table-requires
     enum-known-answer
     enum-told
-    table-refusal-requires
     returns
     mul-if1
     returns-2

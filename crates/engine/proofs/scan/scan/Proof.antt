@@ -15,17 +15,20 @@ enum-known-answer c = search needs
 enum-told : tie.Need-enum-told
 enum-told c = search needs
 
-table-refusal-requires : tie.Need-table-refusal-requires
-table-refusal-requires c κs = search needs
+by-table-requires : tie.Need-by-table-requires
+by-table-requires c κs = search needs
 
 returns : tie.Need-returns
 returns c =
-    let a = c .before .before .before .before .before .before .before .before .before .before .before .args in
-    let told = c .before .enum-told .given .1 in
-    scan-table (a .image .now) (a .state .now) (a .frame .now) (a .report .now) (a .journal .now) _ _ _ _ (c .before .before .before .check-table .ensures .0) told (c .table-refusal .ensures _ _ told)
+    let checked = c .before .before .before in
+    let a = checked .before .before .before .before .before .before .before .before .args in
+    scan-table (a .image .now) (a .state .now) (record { frame = a .frame .now }) (a .report .now) (a .journal .now) _ _ _ _
+    (checked .check-table .ensures .0) (c .before .enum-told .given .1) (c .by-table .ensures)
 
 scan-blocks-requires : tie.Need-scan-blocks-requires
-scan-blocks-requires c κs = c .before .before .before .before .before .before .before .before .check-table .ensures .1 _ (c .before .before .before .before .before .before .answer .given .1)
+scan-blocks-requires c κs =
+    let accepted = c .before .before .before .before .before .before in
+    accepted .before .before .check-table .ensures .1 _ (accepted .answer .given .1)
 
 same-length : tie.Need-same-length
 same-length c = search needs
@@ -38,9 +41,12 @@ same-length-3 c = search needs
 
 returns-2 : tie.Need-returns-2
 returns-2 c =
-    let a = c .before .before .before .before .before .before .before .before .before .before .before .before .before .before .before .before .before .before .before .before .before .before .before .args in
-    let ok = c .before .before .before .before .before .before .before .before .before .before .before .before .before .before .before .check-table .ensures .1 _ (c .before .before .before .before .before .before .before .before .before .before .before .before .before .answer .given .1) in
-    scan-accepted-table (a .image .now) (a .state .now) (a .frame .now) (a .report .now) (a .journal .now) _ (ok .answer) _ _ _ _ (c .before .before .before .before .before .before .scan-blocks .ensures)
+    let called = c .before .before .before .before .before .before in
+    let accepted = called .before .before .before .before .before .before .before in
+    let checked = accepted .before .before in
+    let a = checked .before .before .before .before .before .before .before .before .args in
+    scan-accepted-table (a .image .now) (a .state .now) (record { frame = a .frame .now }) (a .report .now) (a .journal .now) _
+    (checked .check-table .ensures .1 _ (accepted .answer .given .1) .answer) _ _ _ _ (called .scan-blocks .ensures)
 
 pub scan-spec : {M : Type 1} → statement M
 scan-spec =
@@ -49,7 +55,7 @@ scan-spec =
     check-table-requires
     enum-known-answer
     enum-told
-    table-refusal-requires
+    by-table-requires
     returns
     scan-blocks-requires
     same-length

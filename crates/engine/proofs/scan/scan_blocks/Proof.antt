@@ -15,8 +15,8 @@ enum-told c = search needs
 enum-told-2 : tie.Need-enum-told-2
 enum-told-2 c = search needs
 
-check-refusal-requires : tie.Need-check-refusal-requires
-check-refusal-requires c κs = search needs
+by-checks-requires : tie.Need-by-checks-requires
+by-checks-requires c κs = search needs
 
 same-length : tie.Need-same-length
 same-length c = search needs
@@ -29,15 +29,21 @@ same-length-3 c = search needs
 
 returns : tie.Need-returns
 returns c =
-    let a = c .before .before .before .before .before .before .before .before .before .before .before .before .args in
-    let told = c .before .enum-told2 .given .1 in
-    blocks-refused (blocksOf (a .image .now)) (a .state .now) (a .frame .now) (a .report .now) (a .journal .now) _ (c .before .before .before .verify .ensures) _ _ _ told (c .check-refusal .ensures _ _ told)
+    let verified = c .before .before .before in
+    let a = verified .before .before .before .before .before .before .before .before .before .args in
+    blocks-refused (blocksOf (a .image .now)) (a .state .now) (record { frame = a .frame .now }) (a .report .now) (a .journal .now) _
+    (verified .verify .ensures) _ _ _ (c .before .enum-told2 .given .1) (c .by-checks .ensures)
 
 serve-all-requires : tie.Need-serve-all-requires
 serve-all-requires c κs =
-    let a = c .before .before .before .before .before .before .before .before .before .before .before .before .before .before .args in
-    let fits = verified (blocksOf (a .image .now)) (a .state .now) (a .frame .now) (a .report .now) (a .journal .now) _ (c .before .before .before .before .before .verify .ensures) (c .before .before .before .enum-told .given .1) in
-    (c .before .before .before .before .before .before .before .before .before .before .before .before .before .before .pre, (fits .0, fits .1))
+    let passed = c .before .before .before in
+    let checked = passed .before .before in
+    let entry = checked .before .before .before .before .before .before .before .before .before in
+    let a = entry .args in
+    let fits =
+    verified (blocksOf (a .image .now)) (a .state .now) (record { frame = a .frame .now }) (a .report .now) (a .journal .now) _
+    (checked .verify .ensures) (passed .enum-told .given .1) in
+    (entry .pre, (fits .0, fits .1))
 
 same-length-4 : tie.Need-same-length-4
 same-length-4 c = search needs
@@ -50,9 +56,14 @@ same-length-6 c = search needs
 
 returns-2 : tie.Need-returns-2
 returns-2 c =
-    let a = c .before .before .before .before .before .before .before .before .before .before .before .before .before .before .before .before .before .before .before .before .before .args in
-    blocks-served (blocksOf (a .image .now)) (a .state .now) (a .frame .now) (a .report .now) (a .journal .now) _ (c .before .before .before .before .before .before .before .before .before .before .before .before .verify .ensures) (a .count) (accepted-blocks (a .image .now) (a .count) (c .before .before .before .before .before .before .before .before .before .before .before .before .before .before .before .before .before .before .before .before .before .pre .answer)) _ _ _ _
-    (c .before .before .before .before .before .before .before .before .before .before .enum-told .given .1) (c .before .before .before .before .before .before .serve-all .ensures)
+    let served = c .before .before .before .before .before .before in
+    let passed = served .before .before .before .before in
+    let checked = passed .before .before in
+    let entry = checked .before .before .before .before .before .before .before .before .before in
+    let a = entry .args in
+    blocks-served (blocksOf (a .image .now)) (a .state .now) (record { frame = a .frame .now }) (a .report .now) (a .journal .now) _
+    (checked .verify .ensures) (a .count) (accepted-blocks (a .image .now) (a .count) (entry .pre .answer)) _ _ _ _
+    (passed .enum-told .given .1) (served .serve-all .ensures)
 
 pub scan-blocks-spec : {M : Type 1} → statement M
 scan-blocks-spec =
@@ -61,7 +72,7 @@ scan-blocks-spec =
     verify-requires
     enum-told
     enum-told-2
-    check-refusal-requires
+    by-checks-requires
     same-length
     same-length-2
     same-length-3

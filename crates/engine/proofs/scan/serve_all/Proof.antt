@@ -9,7 +9,7 @@ use Rattle.engine.proofs.scan.serve_all.Statement.{statement}
 use Rattle.engine.proofs.scan.serve_all.Tie as tie
 
 abbrev Inv-loop : tie.InvT-loop
-Inv-loop image slots positions count state₀ frame report₀ journal₀ events₀ i₀ state report journal events i = Serving (blocksOf image) frame state₀ report₀ journal₀ i state report journal events
+Inv-loop image slots positions count state₀ frame report₀ journal₀ events₀ i₀ state report journal events i = Serving (blocksOf image) (record { frame = frame }) state₀ report₀ journal₀ i state report journal events
 
 abbrev μ-loop : tie.MeasureT-loop
 μ-loop image slots positions count state₀ frame report₀ journal₀ events₀ i₀ state report journal events i = count - i
@@ -17,61 +17,78 @@ abbrev μ-loop : tie.MeasureT-loop
 loop-holds : tie.Need-loop-holds Inv-loop μ-loop
 loop-holds c = serving-start _ _ _ _ _
 
-kind-at-requires : tie.Need-kind-at-requires Inv-loop μ-loop
-kind-at-requires c κs = (c .before .before .before .before .before .before .before .pre .0, c .loop-test .taken)
-
-start-wire-requires : tie.Need-start-wire-requires Inv-loop μ-loop
-start-wire-requires c κs = (c .before .before .before .before .before .before .before .before .pre .0, c .before .loop-test .taken)
-
-abort-wire-requires : tie.Need-abort-wire-requires Inv-loop μ-loop
-abort-wire-requires c κs = (c .before .before .before .before .before .before .before .before .before .pre .0, c .before .before .loop-test .taken)
+wiring-at-requires : tie.Need-wiring-at-requires Inv-loop μ-loop
+wiring-at-requires c κs =
+    let entry = c .before .before .before .before .before .before .before in
+    (entry .pre .0, c .loop-test .taken)
 
 serve-requires : tie.Need-serve-requires Inv-loop μ-loop
 serve-requires c κs =
-    let g = c .before .before .before .before .before .before .before .before .before .before .before .before .before .args in
-    let L = c .before .before .before .before .before .before .before .loop in
-    let pre = c .before .before .before .before .before .before .before .before .before .before .before .before .before .pre in
-    serving-callable (blocksOf (g .image .now)) (g .frame .now) (g .state .now) (g .report .now) (g .journal .now) (L .i) (L .state) (L .report) (L .journal) (L .events) (L .inv) _ _ _ (c .before .before .before .before .before .kind-at .ensures) (c .before .before .before .before .start-wire .ensures) (c .before .before .before .abort-wire .ensures)
-    (g .image .now) (g .count) (pre .0 .answer) refl (pre .1 .0) (pre .1 .1) (c .before .before .before .before .before .before .loop-test .taken)
+    let read = c .before .before .before in
+    let in-loop = read .before .before in
+    let entry = in-loop .before .before .before .before .before .before in
+    let a = entry .args in
+    let L = in-loop .loop in
+    serving-callable (blocksOf (a .image .now)) (record { frame = a .frame .now }) (a .state .now) (a .report .now) (a .journal .now)
+    (L .i) (L .state) (L .report) (L .journal) (L .events) (L .inv) _ (read .wiring-at .ensures)
+    (a .image .now) (a .count) (entry .pre .0 .answer) refl (entry .pre .1 .0) (entry .pre .1 .1) (read .before .loop-test .taken)
 
 add-i : tie.Need-add-i Inv-loop μ-loop
-add-i c = omega (arith, c .before .before .before .before .before .before .before .before .before .before .before .before .before .before .before .before .before .before .before .before .pre .0 .chain .few, c .before .before .before .before .before .before .before .before .before .before .before .before .before .loop-test .taken)
+add-i c =
+    let called = c .before .before .before .before .before .before in
+    let in-loop = called .before .before .before .before .before .before in
+    let entry = in-loop .before .before .before .before .before .before in
+    omega (arith, entry .pre .0 .chain .few, called .before .before .before .before .before .loop-test .taken)
 
 loop-less : tie.Need-loop-less Inv-loop μ-loop
-loop-less c = omega (arith, c .before .before .before .before .before .before .before .before .before .before .before .before .before .loop-test .taken)
+loop-less c =
+    let called = c .before .before .before .before .before .before in
+    omega (arith, called .before .before .before .before .before .loop-test .taken)
 
 loop-again : tie.Need-loop-again Inv-loop μ-loop
 loop-again c =
-    let g = c .before .before .before .before .before .before .before .before .before .before .before .before .before .before .before .before .before .before .before .before .args in
-    let L = c .before .before .before .before .before .before .before .before .before .before .before .before .before .before .loop in
-    let n = accepted-blocks (g .image .now) (g .count) (c .before .before .before .before .before .before .before .before .before .before .before .before .before .before .before .before .before .before .before .before .pre .0 .answer) in
-    serving-on (blocksOf (g .image .now)) (g .frame .now) (g .state .now) (g .report .now) (g .journal .now) (L .i) (L .state) (L .report) (L .journal) (L .events) (L .inv) _ _ _ (c .before .before .before .before .before .before .before .before .before .before .before .before .kind-at .ensures) (c .before .before .before .before .before .before .before .before .before .before .before .start-wire .ensures) (c .before .before .before .before .before .before .before .before .before .before .abort-wire .ensures)
-    _ _ _ _ (omega (arith, n, c .before .before .before .before .before .before .before .before .before .before .before .before .before .loop-test .taken)) (c .before .before .before .before .before .before .serve .ensures)
+    let called = c .before .before .before .before .before .before in
+    let read = called .before .before .before .before in
+    let in-loop = read .before .before in
+    let entry = in-loop .before .before .before .before .before .before in
+    let a = entry .args in
+    let L = in-loop .loop in
+    let n = accepted-blocks (a .image .now) (a .count) (entry .pre .0 .answer) in
+    serving-on (blocksOf (a .image .now)) (record { frame = a .frame .now }) (a .state .now) (a .report .now) (a .journal .now)
+    (L .i) (L .state) (L .report) (L .journal) (L .events) (L .inv) _ (read .wiring-at .ensures)
+    _ _ _ _ (omega (arith, n, read .before .loop-test .taken)) (called .serve .ensures)
 
 same-length : tie.Need-same-length Inv-loop μ-loop
 same-length c =
-    let g = c .before .before .before .before .before .before .before .args in
+    let entry = c .before .before .before .before .before .before .before in
+    let a = entry .args in
     let L = c .before .loop in
-    serving-sized (blocksOf (g .image .now)) (g .frame .now) (g .state .now) (g .report .now) (g .journal .now) (L .i) (L .state) (L .report) (L .journal) (L .events) (L .inv) (c .before .before .before .before .before .before .before .pre .1 .0) (c .before .before .before .before .before .before .before .pre .1 .1) .0
+    serving-sized (blocksOf (a .image .now)) (record { frame = a .frame .now }) (a .state .now) (a .report .now) (a .journal .now)
+    (L .i) (L .state) (L .report) (L .journal) (L .events) (L .inv) (entry .pre .1 .0) (entry .pre .1 .1) .0
 
 same-length-2 : tie.Need-same-length-2 Inv-loop μ-loop
 same-length-2 c =
-    let g = c .before .before .before .before .before .before .before .args in
+    let entry = c .before .before .before .before .before .before .before in
+    let a = entry .args in
     let L = c .before .loop in
-    serving-sized (blocksOf (g .image .now)) (g .frame .now) (g .state .now) (g .report .now) (g .journal .now) (L .i) (L .state) (L .report) (L .journal) (L .events) (L .inv) (c .before .before .before .before .before .before .before .pre .1 .0) (c .before .before .before .before .before .before .before .pre .1 .1) .1
+    serving-sized (blocksOf (a .image .now)) (record { frame = a .frame .now }) (a .state .now) (a .report .now) (a .journal .now)
+    (L .i) (L .state) (L .report) (L .journal) (L .events) (L .inv) (entry .pre .1 .0) (entry .pre .1 .1) .1
 
 same-length-3 : tie.Need-same-length-3 Inv-loop μ-loop
 same-length-3 c =
-    let g = c .before .before .before .before .before .before .before .args in
+    let entry = c .before .before .before .before .before .before .before in
+    let a = entry .args in
     let L = c .before .loop in
-    serving-sized (blocksOf (g .image .now)) (g .frame .now) (g .state .now) (g .report .now) (g .journal .now) (L .i) (L .state) (L .report) (L .journal) (L .events) (L .inv) (c .before .before .before .before .before .before .before .pre .1 .0) (c .before .before .before .before .before .before .before .pre .1 .1) .2
+    serving-sized (blocksOf (a .image .now)) (record { frame = a .frame .now }) (a .state .now) (a .report .now) (a .journal .now)
+    (L .i) (L .state) (L .report) (L .journal) (L .events) (L .inv) (entry .pre .1 .0) (entry .pre .1 .1) .2
 
 returns : tie.Need-returns Inv-loop μ-loop
 returns c =
-    let g = c .before .before .before .before .before .before .before .args in
+    let entry = c .before .before .before .before .before .before .before in
+    let a = entry .args in
     let L = c .before .loop in
-    let n = accepted-blocks (g .image .now) (g .count) (c .before .before .before .before .before .before .before .pre .0 .answer) in
-    let last : L .i ≡ g .count = omega (arith, n, L .inv .within, c .loop-test .left) in
+    let n = accepted-blocks (a .image .now) (a .count) (entry .pre .0 .answer) in
+    let last : L .i ≡ a .count = omega (arith, n, L .inv .within, c .loop-test .left) in
     rw last at (L .inv .whole)
 
 pub serve-all-spec : {M : Type 1} → statement M
@@ -81,9 +98,7 @@ serve-all-spec =
     Inv-loop
     μ-loop
     loop-holds
-    kind-at-requires
-    start-wire-requires
-    abort-wire-requires
+    wiring-at-requires
     serve-requires
     add-i
     loop-less

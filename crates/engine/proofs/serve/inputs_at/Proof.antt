@@ -2,7 +2,7 @@
 use mathlib.Core.Path.{ap, _∙_}
 use borrow.Author.Needs.{needs}
 use Rattle.block.specs.declared.entry.Inputs.{Inputs}
-use Rattle.engine.specs.Inputs.{flagsIn, wired}
+use Rattle.engine.specs.Inputs.{flagsIn, wired, inputsOf}
 use Rattle.engine.proofs.ServeLaws.{bits-at}
 use Rattle.engine.proofs.serve.inputs_at.Statement.{statement}
 use Rattle.engine.proofs.serve.inputs_at.Tie as tie
@@ -20,10 +20,12 @@ wired-requires : tie.Need-wired-requires
 wired-requires c κs = search needs
 
 returns : tie.Need-returns
+unfolding inputsOf
 returns c =
-    let a = c .before .before .before .before .before .args in
-    let bits = c .before .decode-inputs .ensures ∙ bits-at (a .frame .now) (a .i) in
-    c .wired .ensures ∙ ap (λ (b : Inputs). wired (a .start) (a .abort) (flagsIn (a .state .now)) b) bits
+    let decoded = c .before .before .before in
+    let a = decoded .before .before .before .before .args in
+    let bits = decoded .decode-inputs .ensures ∙ bits-at (a .frame .now) (a .i) in
+    c .wired .ensures ∙ ap (λ (bits : Inputs). wired (a .b .start) (a .b .abort) (flagsIn (a .state .now)) bits) bits
 
 pub inputs-at-spec : {M : Type 1} → statement M
 inputs-at-spec =

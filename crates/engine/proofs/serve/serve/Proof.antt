@@ -15,7 +15,9 @@ idle-requires : tie.Need-idle-requires
 idle-requires c κs = search needs
 
 report-call-requires : tie.Need-report-call-requires
-report-call-requires c κs = c .before .before .before .before .before .before .before .before .before .before .before .pre .1 .0
+report-call-requires c κs =
+    let resolved = c .before .before .before .before .before in
+    resolved .before .before .before .before .before .before .pre .1 .0
 
 same-length : tie.Need-same-length
 same-length c = search needs
@@ -25,17 +27,22 @@ same-length-2 c = search needs
 
 returns : tie.Need-returns
 returns c =
-    let g = c .before .before .before .before .before .before .before .before .before .before .before .before .before .before .args in
-    idle-is (g .kind) (g .start) (g .abort) (g .i) (g .frame .now) (g .state .now) (g .report .now) (g .journal .now) (g .events) _ (c .before .before .before .before .before .before .before .before .inputs-at .ensures) (c .before .before .before .idle .result)
-    (c .before .before .before .before .before .before .before .before .before .before .before .before .before .before .pre .0 .0) (sym (c .before .before .before .before .before .before .is-idle .ensures) ∙ c .before .before .before .before .before .if1 .taken) (c .before .before .before .idle .ensures) _ (c .before .before .report-call .ensures)
+    let tested = c .before .before .before .before .before .before in
+    let resolved = tested .before .before in
+    let entry = resolved .before .before .before .before .before .before in
+    let a = entry .args in
+    idle-is (a .b) (a .i) (a .frame .now) (a .state .now) (a .report .now) (a .journal .now) (a .events) _ (resolved .inputs-at .ensures)
+    (c .before .before .before .idle .result) (entry .pre .0 .0) (sym (tested .is-idle .ensures) ∙ c .before .before .before .before .before .if1 .taken)
+    (c .before .before .before .idle .ensures) _ (c .before .before .report-call .ensures)
 
 call-at-requires : tie.Need-call-at-requires
 call-at-requires c κs = search needs
 
 write-call-requires : tie.Need-write-call-requires
 write-call-requires c κs =
-    let pre = c .before .before .before .before .before .before .before .before .before .before .before .before .before .before .pre in
-    (pre .0 .0 .few, pre .0 .0 .own, pre .1 .0, pre .1 .1)
+    let resolved = c .before .before .before .before .before .before .before .before in
+    let entry = resolved .before .before .before .before .before .before in
+    (entry .pre .0 .0 .few, entry .pre .0 .0 .own, entry .pre .1 .0, entry .pre .1 .1)
 
 same-length-3 : tie.Need-same-length-3
 same-length-3 c = search needs
@@ -48,9 +55,12 @@ same-length-5 c = search needs
 
 returns-2 : tie.Need-returns-2
 returns-2 c =
-    let g = c .before .before .before .before .before .before .before .before .before .before .before .before .before .before .before .before .before .before .before .before .before .args in
-    served-is (g .kind) (g .start) (g .abort) (g .i) (g .frame .now) (g .state .now) (g .report .now) (g .journal .now) (g .events) _ (c .before .before .before .before .before .before .before .before .before .before .before .before .before .before .before .inputs-at .ensures) (c .before .before .before .before .before .before .before .before .before .before .call-at .result)
-    _ (c .before .before .before .before .before .before .before .before .before .before .call-at .ensures) (c .before .before .before .before .before .before .write-call .ensures)
+    let written = c .before .before .before .before .before .before in
+    let called = written .before .before .before .before in
+    let resolved = called .before .before .before .before .before in
+    let a = resolved .before .before .before .before .before .before .args in
+    served-is (a .b) (a .i) (a .frame .now) (a .state .now) (a .report .now) (a .journal .now) (a .events) _ (resolved .inputs-at .ensures)
+    (called .call-at .result) _ (called .call-at .ensures) (written .write-call .ensures)
 
 pub serve-spec : {M : Type 1} → statement M
 serve-spec =

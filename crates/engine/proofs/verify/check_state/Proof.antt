@@ -1,103 +1,29 @@
--- `verify::check_state` meets its contract. The loop keeps `Left`: the blocks from index i on are all that are left to check.
-use Prim.Native.Nat.{_-_}
-use mathlib.Core.Path.{refl, _≡_, sym, _∙_}
+-- `verify::check_state` meets its contract: the length, then each record.
+use mathlib.Core.Path.{_∙_}
 use native.Mathlib.Omega.{arith}
 use borrow.Author.Needs.{needs}
-use native.Mathlib.Nat.{add-sub-cancel-left}
-use borrow.Author.Tests.{not-true, not-false}
-use Rattle.table.specs.Blocks.{blocksOf, blockAt}
+use borrow.Author.Tests.{eq-eqb, ne-eqb}
 use Rattle.table.proofs.AcceptedLaws.{accepted-blocks}
-use Rattle.engine.proofs.VerifyLaws.{Left, left-failed, left-on, left-end, stateTest, stateCheck, state-each}
 use Rattle.engine.proofs.verify.check_state.Statement.{statement}
 use Rattle.engine.proofs.verify.check_state.Tie as tie
 
-abbrev Inv-loop : tie.InvT-loop
-Inv-loop image slots positions count state i₀ i = Left (stateCheck state) (blocksOf image) i
+mul-if1 : tie.Need-mul-if1
+mul-if1 c = omega (arith, c .before .before .pre .chain .few)
 
-abbrev μ-loop : tie.MeasureT-loop
-μ-loop image slots positions count state i₀ i = count - i
-
-loop-holds : tie.Need-loop-holds Inv-loop μ-loop
-loop-holds c = refl
-
-kind-at-requires : tie.Need-kind-at-requires Inv-loop μ-loop
-kind-at-requires c κs = (c .before .before .before .before .pre .0, c .loop-test .taken)
-
-mul-at : tie.Need-mul-at Inv-loop μ-loop
-mul-at c = omega arith
-
-add-end : tie.Need-add-end Inv-loop μ-loop
-add-end c = omega arith
-
-sub-sound-bytes : tie.Need-sub-sound-bytes Inv-loop μ-loop
-sub-sound-bytes c = omega arith
-
-part-sound-bytes-start : tie.Need-part-sound-bytes-start Inv-loop μ-loop
-part-sound-bytes-start c = omega arith
-
-part-sound-bytes-end : tie.Need-part-sound-bytes-end Inv-loop μ-loop
-part-sound-bytes-end c = omega arith
-
-sound-bytes-requires : tie.Need-sound-bytes-requires Inv-loop μ-loop
-sound-bytes-requires c κs = search needs
-
-add-t16 : tie.Need-add-t16 Inv-loop μ-loop
-add-t16 c = omega (arith, c .before .before .before .before .before .before .before .before .pre .0 .chain .few)
-
-cast-t17 : tie.Need-cast-t17 Inv-loop μ-loop
-cast-t17 c = omega (arith, c .before .before .before .before .before .before .before .before .pre .0 .chain .few)
-
-returns : tie.Need-returns Inv-loop μ-loop
+returns : tie.Need-returns
 returns c =
-    let a = c .before .before .before .before .before .before .before .before .args in
-    let L = c .before .before .before .before .before .loop in
-    let n = accepted-blocks (a .image .now) (a .count) (c .before .before .before .before .before .before .before .before .pre .0 .answer) in
-    let t : c .before .sound-bytes .result ≡ stateTest (a .state .now) (L .i) (blockAt (blocksOf (a .image .now)) (L .i)) =
-    rw (add-sub-cancel-left, c .before .before .before .kind-at .ensures) at (c .before .sound-bytes .ensures) in
-    left-failed (stateTest (a .state .now)) 21 (stateCheck (a .state .now)) (state-each (a .state .now)) (blocksOf (a .image .now)) (L .i) (L .inv)
-    (omega (arith, c .before .before .before .before .loop-test .taken)) (sym t ∙ not-true _ (c .if1 .taken))
+    let entry = c .before .before .before in
+    let n = accepted-blocks (entry .args .image .now) (entry .args .count) (entry .pre .answer) in
+    rw (n, ne-eqb _ _ (c .if1 .taken))
 
-add-i : tie.Need-add-i Inv-loop μ-loop
-add-i c = omega (arith, c .before .before .before .before .before .before .before .before .pre .0 .chain .few)
+check-sound-requires : tie.Need-check-sound-requires
+check-sound-requires c κs = (c .before .before .before .pre, c .if1 .left)
 
-loop-less : tie.Need-loop-less Inv-loop μ-loop
-loop-less c = omega arith
-
-loop-again : tie.Need-loop-again Inv-loop μ-loop
-loop-again c =
-    let a = c .before .before .before .before .before .before .before .before .args in
-    let L = c .before .before .before .before .before .loop in
-    let n = accepted-blocks (a .image .now) (a .count) (c .before .before .before .before .before .before .before .before .pre .0 .answer) in
-    let t : c .before .sound-bytes .result ≡ stateTest (a .state .now) (L .i) (blockAt (blocksOf (a .image .now)) (L .i)) =
-    rw (add-sub-cancel-left, c .before .before .before .kind-at .ensures) at (c .before .sound-bytes .ensures) in
-    left-on (stateTest (a .state .now)) 21 (stateCheck (a .state .now)) (state-each (a .state .now)) (blocksOf (a .image .now)) (L .i) (L .inv)
-    (omega (arith, c .before .before .before .before .loop-test .taken)) (sym t ∙ not-false _ (c .if1 .left))
-
-returns-2 : tie.Need-returns-2 Inv-loop μ-loop
+returns-2 : tie.Need-returns-2
 returns-2 c =
-    let a = c .before .before .before .before .args in
-    let L = c .before .loop in
-    let n = accepted-blocks (a .image .now) (a .count) (c .before .before .before .before .pre .0 .answer) in
-    left-end (stateTest (a .state .now)) 21 (stateCheck (a .state .now)) (state-each (a .state .now)) (blocksOf (a .image .now)) (L .i) (L .inv) (omega (arith, c .loop-test .left))
+    let entry = c .before .before .before .before in
+    let n = accepted-blocks (entry .args .image .now) (entry .args .count) (entry .pre .answer) in
+    rw (n, eq-eqb _ _ (c .before .if1 .left)) (c .check-sound .ensures)
 
 pub check-state-spec : {M : Type 1} → statement M
-check-state-spec =
-    tie.close
-    (tie.spec
-    Inv-loop
-    μ-loop
-    loop-holds
-    kind-at-requires
-    mul-at
-    add-end
-    sub-sound-bytes
-    part-sound-bytes-start
-    part-sound-bytes-end
-    sound-bytes-requires
-    add-t16
-    cast-t17
-    returns
-    add-i
-    loop-less
-    loop-again
-    returns-2)
+check-state-spec = tie.close (tie.spec mul-if1 returns check-sound-requires returns-2)

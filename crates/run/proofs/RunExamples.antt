@@ -27,17 +27,17 @@ use Rattle.block.specs.Rules.{rule}
 use Rattle.block.specs.Call.{callWithin, callOf}
 use Rattle.block.specs.Turns.{hasStart}
 use Rattle.block.specs.History.{tickAll, clocksOf, timerOf, takenTimeOut, timeOutInForce}
 use Rattle.engine.specs.Verify.{stateSound, frameForm, verifyOf}
 use Rattle.engine.specs.Inputs.{inputsOf}
 use Rattle.engine.specs.Serve.{callIn, served, servedTo}
 use Rattle.engine.specs.Fresh.{freshOf}
 use Rattle.engine.specs.Scan.{scanBlocks, scanOf}
-use Rattle.engine.specs.Scans.{flagsSeen, stateAfter, journalOf, historyOf}
-use Rattle.engine.specs.RunExamples.{image, buffer, starts, isDone, damaged, fails, rests, isLate, isAborted, works, scans, running, answersOf, passesOf, startsOf, RunExample}
+use Rattle.run.specs.Scans.{flagsSeen, stateFrom, journalFrom, historyFrom}
+use Rattle.run.specs.RunExamples.{image, buffer, starts, isDone, damaged, fails, rests, isLate, isAborted, works, scans, running, answersOf, passesOf, startsOf, RunExample}
 
 pub run-example : RunExample
 unfolding image buffer starts isDone damaged fails rests isLate isAborted works scans running answersOf passesOf startsOf
-    freshOf stateAfter journalOf historyOf scanOf scanBlocks verifyOf stateSound frameForm servedTo served callIn inputsOf flagsSeen
+    freshOf stateFrom journalFrom historyFrom scanOf scanBlocks verifyOf stateSound frameForm servedTo served callIn inputsOf flagsSeen
     checkOf verdictOf headerCheck walked walkIn unmet recordsCheck recordsFrom recordCheck tagAmong tagForm tagText tagChar padded
     spaces sameBytes sparesCheck sparesFrom allZero blocksIn blockIn positionFrom
     soundBytes recordForm entryBytes entryForm decodeEntry decodeRecord encodeEntry encodePieces encodeRecord encodeReport encodeEvents

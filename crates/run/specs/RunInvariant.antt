@@ -18,12 +18,12 @@ use Rattle.block.specs.History.{timerOf, takenTimeOut, timeOutInForce, entriesO
 use Rattle.block.specs.BlockInvariant.{EachCall, isOpen, openJob, flagCount}
 use Rattle.block.specs.declared.record.Record.{Record}
 use Rattle.block.specs.declared.event.Event.{Event}
 use Rattle.engine.specs.Serve.{recordIn}
 use Rattle.engine.specs.Fresh.{freshOf}
-use Rattle.engine.specs.Scans.{Scans, Framed, Given, stateAfter, resultOf, journalOf, historyOf}
+use Rattle.run.specs.Scans.{Scans, FramesAreBytes, Given, stateAfter, resultOf, journalOf, historyOf}
 use Rattle.engine.specs.ScanAccepted.{StateFits, GivenFits}
-use Rattle.engine.specs.declared.answer.Freshened.the-variants.{Blocks}
-use Rattle.engine.specs.declared.answer.Scanned.the-variants.{Events}
+use Rattle.table.specs.declared.check.Checked.the-variants.{Blocks}
+use Rattle.engine.specs.declared.scan.Scanned.the-variants.{Events}
 
 module _ (image buffer : List ℕ) (scans : Scans) (k : ℕ) where
   -- the kind of the block at index k, whose position is k + 1
@@ -70,16 +70,16 @@ pub record RunInvariant (image buffer : List ℕ) (scans : Scans) : Type 0 where
 -- theorem run-invariant, proofs/RunInvariant.antt
 abbrev pub RunInvariantHolds : Type 0
 RunInvariantHolds =
-    (image buffer : List ℕ) (n : ℕ) → freshOf image buffer .answer ≡ Blocks n → (scans : Scans) → Framed scans → RunInvariant image buffer scans
+    (image buffer : List ℕ) (n : ℕ) → freshOf image buffer .answer ≡ Blocks n → (scans : Scans) → FramesAreBytes scans → RunInvariant image buffer scans
 
 -- theorem state-fits, proofs/RunInvariant.antt: after any list of scans from fresh the state buffer fits
 abbrev pub StateFitsAfter : Type 0
 StateFitsAfter =
-    (image buffer : List ℕ) (n : ℕ) → freshOf image buffer .answer ≡ Blocks n → (scans : Scans) → Framed scans
+    (image buffer : List ℕ) (n : ℕ) → freshOf image buffer .answer ≡ Blocks n → (scans : Scans) → FramesAreBytes scans
     → StateFits (blocksOf image) (stateAfter image buffer scans)
 
 -- theorem next-accepted, proofs/RunInvariant.antt: so that only what it is given can turn the next scan back
 abbrev pub NextIsAccepted : Type 0
 NextIsAccepted =
-    (image buffer : List ℕ) (n : ℕ) → freshOf image buffer .answer ≡ Blocks n → (scans : Scans) → Framed scans → (g : Given)
-    → GivenFits (blocksOf image) (g .frame) (g .report) (g .journal) → (m : ℕ) × (resultOf image buffer scans g .answer ≡ Events m)
+    (image buffer : List ℕ) (n : ℕ) → freshOf image buffer .answer ≡ Blocks n → (scans : Scans) → FramesAreBytes scans → (g : Given)
+    → GivenFits (blocksOf image) (g .told) (g .report) (g .journal) → (m : ℕ) × (resultOf image buffer scans g .answer ≡ Events m)

@@ -6,6 +6,7 @@ use mathlib.Core.List.{List, [], _∷_, _++_}
 use mathlib.Core.Path.{_≡_}
 use lib.ListN.{replicate}
 use Rattle.table.specs.Place.{Answer, value, refusal}
+use Rattle.table.specs.Check.{checkedAnswer}
 use Rattle.layout.specs.EntryLayout.{encodeEntry}
 use Rattle.layout.specs.EventLayout.{Posted}
 use Rattle.block.specs.Record.{Executing}
@@ -14,10 +15,10 @@ use Rattle.block.specs.Entry.{Working, Complete, ErrorReply}
 use Rattle.block.specs.History.{History, fresh, _then_, timerOf, timeOutInForce}
 use Rattle.block.specs.declared.entry.Piece.{Piece}
 use Rattle.block.specs.declared.entry.Entry.{Entry}
 use Rattle.engine.specs.Serve.{recordIn}
-use Rattle.engine.specs.Fresh.{freshOf, freshAnswer}
+use Rattle.engine.specs.Fresh.{freshOf}
 use Rattle.engine.specs.Scan.{scanAnswer}
-use Rattle.engine.specs.Scans.{Scans, none, _andThen_, Given, stateAfter, journalOf, resultOf, historyOf}
+use Rattle.run.specs.Scans.{Scans, none, _andThen_, Given, stateAfter, journalOf, resultOf, historyOf}
 
 -- Two blocks: position 1 is slot 2, of kind 7 (ETrigATo), tag PUMP; position 2 is slot 1, of kind 9 (LCon), tag FAN, its start wired to the busy flag of slot 2.
 unfoldable pub image : List ℕ
@@ -55,7 +56,7 @@ abbrev fan : ℕ → Entry
 fan job = entryOf false false job 0 0 0 noPiece
 
 abbrev scan : Entry → Entry → Given
-scan pump fan = record { frame = encodeEntry pump ++ encodeEntry fan; report = replicate 24 255; journal = replicate 32 255 }
+scan pump fan = record { told = record { frame = encodeEntry pump ++ encodeEntry fan }; report = replicate 24 255; journal = replicate 32 255 }
 
 -- job 7 starts at 4,294,967,290
 unfoldable pub starts : Given
@@ -116,7 +117,7 @@ at position kind code job = record { position = position; event = record { kind 
 
 -- theorem run-example, proofs/RunExamples.antt
 pub record RunExample : Type 0 where
-  pub made : freshAnswer (freshOf image buffer .answer) ≡ value 2
+  pub made : checkedAnswer (freshOf image buffer .answer) ≡ value 2
   pub answers : answersOf scans
       ≡ value 2 ∷ value 2 ∷ refusal 31 2 ∷ value 2 ∷ value 0 ∷ value 2 ∷ value 0 ∷ value 2 ∷ []
   pub journal : journalOf image buffer scans

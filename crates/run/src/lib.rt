@@ -1,0 +1,1 @@
+// Any list of scans, and the run invariant: definitions and theorems about fresh and the scan, and no code.
