@@ -2,7 +2,7 @@
 -- laws of calls, soundness, events and time. For the list of scans.
 use Prim.Native.Nat.{ℕ, _+_, _≤_, _<_}
 use native.Mathlib.Omega.{arith}
-use mathlib.Core.Bool.{Bool, true, false, cond, _&&_}
+use mathlib.Core.Bool.{Bool, true, false, cond}
 use mathlib.Core.List.{List}
 use mathlib.Core.Logic.{_≢_}
 use mathlib.Core.Option.{Option, none, some}
@@ -10,8 +10,9 @@ use mathlib.Core.Path.{_≡_, _∙_, refl, sym, ap}
 use lib.Dec.{eqb, leb}
 use lib.ListN.{take}
 use borrow.Author.Tests.{eqb-true, leb-true, le-leb}
+use Rattle.membership.specs.Membership.{within}
 use Rattle.kind.specs.Kind.{isKind, isEdge, hasTimeOut}
-use Rattle.clock.specs.Clock.{tick}
+use Rattle.clock.specs.Clock.{clockModulus, tick}
 use Rattle.clock.specs.Clock.{start as begin}
 use Rattle.clock.specs.declared.Timer.{Timer}
 use Rattle.block.specs.Record.{Dormant, Executing, bit}
@@ -37,29 +38,29 @@ use Rattle.block.proofs.SoundLaws.{call-sound}
 use Rattle.block.proofs.EventLaws.{turns-append, call-turns, call-jobs}
 use Rattle.block.proofs.TimeLaws.{Timing, call-time}
 
--- starts and finishes in turns
+-- starts and finishes in turns: as many, with the job that is open
 
-openCount : Option ℕ → ℕ
+unfoldable pub openCount : Option ℕ → ℕ
 openCount none = 0
 openCount (some j) = 1
 
-finishes : List Event → ℕ
+unfoldable pub finishes : List Event → ℕ
 finishes es = countOf DoneEvent es + countOf Failed es + countOf AbortedEvent es + countOf Withdrawn es
 
 abbrev one : ℕ → ℕ → ℕ
 one n m = cond (eqb n m) 1 0
 
 -- a finish is one event of one kind, and no start
-finish-counts : (n : ℕ) → (leb 2 n && leb n 5) ≡ true → (one n Start ≡ 0) × (one n DoneEvent + one n Failed + one n AbortedEvent + one n Withdrawn ≡ 1)
+finish-counts : (n : ℕ) → within DoneEvent Withdrawn n ≡ true → (one n Start ≡ 0) × (one n DoneEvent + one n Failed + one n AbortedEvent + one n Withdrawn ≡ 1)
 finish-counts n h =
-    to-six (λ (m : ℕ). (leb 2 m && leb m 5) ≡ true → (one m Start ≡ 0) × (one m DoneEvent + one m Failed + one m AbortedEvent + one m Withdrawn ≡ 1)) n
-    (le-leb n 6 (omega (arith, leb-true n 5 (and-right (leb 2 n) (leb n 5) h))))
+    to-six (λ (m : ℕ). within DoneEvent Withdrawn m ≡ true → (one m Start ≡ 0) × (one m DoneEvent + one m Failed + one m AbortedEvent + one m Withdrawn ≡ 1)) n
+    (le-leb n 6 (omega (arith, leb-true n Withdrawn (and-right (leb DoneEvent n) (leb n Withdrawn) h))))
     no-case no-case (λ _. (refl, refl)) (λ _. (refl, refl)) (λ _. (refl, refl)) (λ _. (refl, refl)) no-case h
 
 start-counts : (n : ℕ) → eqb n Start ≡ true → (one n Start ≡ 1) × (one n DoneEvent + one n Failed + one n AbortedEvent + one n Withdrawn ≡ 0)
 start-counts n h = rw (eqb-true n Start h) (refl, refl)
 
-turns-counts : {k : ℕ} {p q : Option ℕ} {es : List Event} → Turns k p es q → countOf Start es + openCount p ≡ finishes es + openCount q
+pub turns-counts : {k : ℕ} {p q : Option ℕ} {es : List Event} → Turns k p es q → countOf Start es + openCount p ≡ finishes es + openCount q
 unfolding countOf openCount finishes
 turns-counts end = refl
 turns-counts (start v h g x) = let c = start-counts (v .kind) h in omega (arith, turns-counts x)
@@ -110,7 +111,7 @@ kept-fresh k h =
     }
 
 -- one call more
-module _ (k : ℕ) (h : History) (x : Kept k h) (i : Inputs) (e : Entry) (fits : entryFits e ≡ true) (clock : e .clock < 4294967296) where
+module _ (k : ℕ) (h : History) (x : Kept k h) (i : Inputs) (e : Entry) (fits : entryFits e ≡ true) (clock : e .clock < clockModulus) where
   abbrev out : Outcome
   out = callOf k i e (recordAfter h)
 

@@ -2,7 +2,7 @@
 use Prim.Native.Nat.{ℕ, suc, _+_, _-_, _*_, _≤_, _<_}
 use native.Mathlib.Omega.{arith}
 use native.Mathlib.Nat.{add-assoc, zero-add}
-use mathlib.Core.Bool.{Bool, true, false, not, _&&_}
+use mathlib.Core.Bool.{Bool, true, false, not, _&&_, _||_}
 use mathlib.Core.List.{List, [], _∷_, _++_, append-assoc, append-nil}
 use mathlib.Core.Path.{_≡_, _∙_, refl, ap, sym, subst}
 use lib.Dec.{eqb}
@@ -10,9 +10,9 @@ use lib.ListN.{length, take, length-append, length-take}
 use borrow.Author.Tests.{eqb-true, eqb-false}
 use Rattle.kind.specs.Kind.{isEdge, hasTimeLimit, isContinuous}
 use Rattle.clock.specs.Clock.{pastTimeOut}
-use Rattle.block.specs.Record.{Dormant, Executing, Aborting, Resetting}
+use Rattle.block.specs.Record.{Dormant, Executing, Done, Error, Aborting, Aborted, Resetting}
 use Rattle.block.specs.Event.{emitted}
-use Rattle.block.specs.Entry.{Complete, ErrorReply}
+use Rattle.block.specs.Entry.{Complete, ErrorReply, mostPieces}
 use Rattle.block.specs.Dormant.{dormant}
 use Rattle.block.specs.Executing.{calledOff, timeOutOf, atCall, usePiece, endsPieces, usePieces, boundsOf, worked, judge, executing}
 use Rattle.block.specs.Ended.{resetDue, ended}
@@ -42,30 +42,32 @@ pieces-used several b w (p ∷ ps) =
 
 -- a pass uses at most four pieces
 abbrev Few : Pass → Type 0
-Few p = p .used ≤ 4
+Few p = p .used ≤ mostPieces
 
 module _ (k : ℕ) (i : Inputs) (e : Entry) (r : Record) where
-  judge-used : worked k e r .used ≤ 4 → Few (judge (isContinuous k) (timeOutOf k e r) (worked k e r) r)
+  judge-used : worked k e r .used ≤ mostPieces → Few (judge (isContinuous k) (timeOutOf k e r) (worked k e r) r)
   unfolding judge
   judge-used h =
       choose Few (eqb (worked k e r .reply) ErrorReply) _ _ (λ t. h)
       (λ t. choose Few (pastTimeOut (timeOutOf k e r) (worked k e r .timer)) _ _ (λ t. h)
       (λ t. choose Few (eqb (worked k e r .reply) Complete && not (isContinuous k)) _ _ (λ t. h) (λ t. h)))
 
-  pass-used : e .count ≤ 4 → Few (pass k i e r)
+  pass-used : e .count ≤ mostPieces → Few (pass k i e r)
   unfolding rule dormant executing ended aborting resetting
   pass-used h =
       choose Few (eqb (r .step) Dormant) _ _ (λ t. choose Few (i .start) _ _ (λ t. omega arith) (λ t. omega arith))
       (λ t. choose Few (eqb (r .step) Executing) _ _
       (λ t. choose Few (calledOff k i) _ _ (λ t. omega arith) (λ t. judge-used work))
+      (λ t. choose Few (eqb (r .step) Done || eqb (r .step) Error || eqb (r .step) Aborted) _ _
+      (λ t. choose Few (resetDue i r) _ _ (λ t. omega arith) (λ t. omega arith))
       (λ t. choose Few (eqb (r .step) Aborting) _ _
       (λ t. choose Few (eqb (e .«abort_reply») ErrorReply) _ _ (λ t. omega arith)
       (λ t. choose Few (eqb (e .«abort_reply») Complete) _ _ (λ t. choose Few (isEdge k) _ _ (λ t. omega arith) (λ t. omega arith)) (λ t. omega arith)))
       (λ t. choose Few (eqb (r .step) Resetting) _ _
       (λ t. choose Few (eqb (e .«reset_reply») Complete) _ _ (λ t. omega arith) (λ t. omega arith))
-      (λ t. choose Few (resetDue i r) _ _ (λ t. omega arith) (λ t. omega arith)))))
+      (λ t. omega arith)))))
     where
-      work : worked k e r .used ≤ 4
+      work : worked k e r .used ≤ mostPieces
       work = omega (arith, pieces-used (hasTimeLimit k) (boundsOf k e r) (atCall e r) (take (e .count) (e .pieces)), length-take (e .count) (e .pieces))
 
 -- an outcome before another
@@ -124,7 +126,7 @@ pub record Rest (k : ℕ) (i : Inputs) (e : Entry) (a : CallResult) (t : Outcome
   rest : Outcome
   called : Call k i e (a .next) rest
   joined : onto (outcomeOf a) rest ≡ t
-  pieces : a .used ≤ 4 * a .passes
+  pieces : a .used ≤ mostPieces * a .passes
   passes : a .passes + rest .passes ≤ 6
   room : a .count + length (rest .events) ≤ 2
 
@@ -160,7 +162,7 @@ module _ (k : ℕ) (i : Inputs) (e : Entry) where
       (subst (λ (x : Outcome). Call k i e r x) (sym same) (w .called), same)
 
   module _ (a : CallResult) (t : Outcome) (l : Rest k i e a t) where
-    goes-to : e .count ≤ 4 → pass k i e (a .next) .again ≡ true → Rest k i e (withPass a (pass k i e (a .next))) t
+    goes-to : e .count ≤ mostPieces → pass k i e (a .next) .again ≡ true → Rest k i e (withPass a (pass k i e (a .next))) t
     goes-to h g =
         let p : Pass = pass k i e (a .next) in
         let next = goes-on (l .called) g in
@@ -188,7 +190,7 @@ module _ (k : ℕ) (i : Inputs) (e : Entry) where
 
     -- a turn of the loop: the pass p is made, and added to the account
     module _ (p : Pass) (is : p ≡ pass k i e (a .next)) where
-      pub rest-fits : e .count ≤ 4 → (a .used + p .used < 256) × (a .passes < 6)
+      pub rest-fits : e .count ≤ mostPieces → (a .used + p .used < 256) × (a .passes < 6)
       rest-fits h =
           let u = pass-used k i e (a .next) h in
           let v = ap (λ (x : Pass). x .used) is in
@@ -198,14 +200,14 @@ module _ (k : ℕ) (i : Inputs) (e : Entry) where
           (omega arith, omega arith)
 
       module _ (b : CallResult) (added : b ≡ withPass a p) where
-        pub rest-less : e .count ≤ 4 → 6 - b .passes < 6 - a .passes
+        pub rest-less : e .count ≤ mostPieces → 6 - b .passes < 6 - a .passes
         rest-less h =
             let f = rest-fits h .1 in
             let n = add-next a p .2 in
             let m = ap (λ (x : CallResult). x .passes) added in
             omega arith
 
-        pub rest-goes : e .count ≤ 4 → p .again ≡ true → Rest k i e b t
+        pub rest-goes : e .count ≤ mostPieces → p .again ≡ true → Rest k i e b t
         rest-goes h g = subst (λ (x : CallResult). Rest k i e x t) (sym (added ∙ ap (withPass a) is)) (goes-to h (sym (ap (λ (x : Pass). x .again) is) ∙ g))
 
         pub rest-stops : p .again ≡ false → outcomeOf b ≡ t

@@ -10,11 +10,11 @@ use lib.Dec.{eqb, leb}
 use lib.ListN.{length, take}
 use borrow.Author.Tests.{not-true, leb-true, ne-eqb}
 use Rattle.kind.specs.Kind.{isEdge, hasAbort, hasTimeLimit, hasTimeOut, isContinuous}
-use Rattle.clock.specs.Clock.{start, tick, past, pastTimeOut}
+use Rattle.clock.specs.Clock.{mostElapsed, start, tick, past, pastTimeOut}
 use Rattle.clock.specs.declared.Timer.{Timer}
-use Rattle.block.specs.Record.{Dormant, Executing, Done, Error, Aborting, Aborted, Resetting, freshRecord}
+use Rattle.block.specs.Record.{Dormant, Executing, Done, Error, Aborting, Aborted, Resetting, TimedOut, freshRecord}
 use Rattle.block.specs.Event.{emitted}
-use Rattle.block.specs.Entry.{Complete, ErrorReply, entryFits}
+use Rattle.block.specs.Entry.{Complete, ErrorReply, leastErrorCode, entryFits}
 use Rattle.block.specs.Pass.{goOn}
 use Rattle.block.specs.Dormant.{dormant, started, limitTaken, timeOutTaken}
 use Rattle.block.specs.Executing.{executing, judge, calledOff, timeOutOf, worked, timed}
@@ -92,9 +92,9 @@ taken-fits false x = refl
 taken-times : (k : ℕ) (e : Entry) → timesFit k (limitTaken k e) (timeOutTaken k e) (start (e .clock)) ≡ true
 taken-times k e = rw (taken-fits (isEdge k && hasTimeLimit k) (e .limit)) (taken-fits (isEdge k && hasTimeOut k) (e .timeout))
 
-read-times : (k l t : ℕ) (w v : Timer) → leb (v .elapsed) 4294967296 ≡ true → timesFit k l t w ≡ true → timesFit k l t v ≡ true
+read-times : (k l t : ℕ) (w v : Timer) → leb (v .elapsed) mostElapsed ≡ true → timesFit k l t w ≡ true → timesFit k l t v ≡ true
 read-times k l t w v h x =
-    let p = each (leb (w .elapsed) 4294967296) ((eqb l 0 || (isEdge k && hasTimeLimit k)) ∷ (eqb t 0 || (isEdge k && hasTimeOut k)) ∷ []) x in
+    let p = each (leb (w .elapsed) mostElapsed) ((eqb l 0 || (isEdge k && hasTimeLimit k)) ∷ (eqb t 0 || (isEdge k && hasTimeOut k)) ∷ []) x in
     rw (h, p .1 .0) (p .1 .1)
 
 -- what a start sets
@@ -105,8 +105,8 @@ started-timeout : (k : ℕ) (e : Entry) (r : Record) → started k e r .timeout 
 started-timeout k e r = refl
 
 -- the codes of an error
-code-two : (k c : ℕ) → leb 2 c ≡ true → errorCode k c ≡ true
-code-two k c h = rw (ne-eqb c 0 (λ q. omega (arith, leb-true 2 c h)), ne-eqb c 1 (λ q. omega (arith, leb-true 2 c h)))
+code-two : (k c : ℕ) → leb leastErrorCode c ≡ true → errorCode k c ≡ true
+code-two k c h = rw (ne-eqb c 0 (λ q. omega (arith, leb-true leastErrorCode c h)), ne-eqb c TimedOut (λ q. omega (arith, leb-true leastErrorCode c h)))
 
 has-time-out : (k : ℕ) (e : Entry) (r : Record) (t : Timer) → pastTimeOut (timeOutOf k e r) t ≡ true → hasTimeOut k ≡ true
 unfolding pastTimeOut past
@@ -162,7 +162,7 @@ module _ (k : ℕ) (i : Inputs) (e : Entry) where
     run = rec Executing busy false j 0 l t w
 
     -- to an end step
-    leaving : (z : End) (c : ℕ) (v : Work) (p : Pass) → p ≡ goOn (v .used) (rec (endStep z) busy false j c l t (v .timer)) → leb (v .timer .elapsed) 4294967296 ≡ true
+    leaving : (z : End) (c : ℕ) (v : Work) (p : Pass) → p ≡ goOn (v .used) (rec (endStep z) busy false j c l t (v .timer)) → leb (v .timer .elapsed) mostElapsed ≡ true
         → EndFits k (entryFits e ≡ true) z false c → Passed k e run p
     unfolding rank room openIn hasStart
     leaving isDone c v p h g f = rw h (going run _ refl (unshown isDone f (read-times k l t w (v .timer) g x)) (λ _. end) nothing (λ _. refl) (omega arith) (omega arith) (leaves (omega arith)))
@@ -175,7 +175,7 @@ module _ (k : ℕ) (i : Inputs) (e : Entry) where
         choose (Passed k e run) (eqb (v .reply) ErrorReply) _ _
         (λ h. leaving isError (v .code) v _ refl (f .held) (λ g. code-two k (v .code) (f .code g h)))
         (λ _. choose (Passed k e run) (pastTimeOut (timeOutOf k e run) (v .timer)) _ _
-        (λ h. leaving isError 1 v _ refl (f .held) (λ g. has-time-out k e run (v .timer) h))
+        (λ h. leaving isError TimedOut v _ refl (f .held) (λ g. has-time-out k e run (v .timer) h))
         (λ late. choose (Passed k e run) (eqb (v .reply) Complete && not (isContinuous k)) _ _
         (λ h. leaving isDone 0 v _ refl (f .held) (refl, not-true (isContinuous k) (and-right (eqb (v .reply) Complete) (not (isContinuous k)) h), λ _. refl))
         (λ _.

@@ -7,9 +7,10 @@ use mathlib.Core.Path.{_≡_, refl, sym, subst}
 use lib.Dec.{eqb, leb}
 use borrow.Author.Tests.{not-true, not-false, eqb-true, leb-false, le-leb}
 use Rattle.kind.specs.Kind.{isKind, isEdge, hasAbort, hasTimeLimit, hasTimeOut, isContinuous}
+use Rattle.clock.specs.Clock.{mostElapsed}
 use Rattle.clock.specs.declared.Timer.{Timer}
-use Rattle.block.specs.Record.{Dormant, Executing, Done, Error, Aborting, Aborted, Resetting, freshRecord}
-use Rattle.block.specs.Sound.{only, busyOnly, doneOnly, errorOnly, abortedOnly, implies, zeroed, flagsFit, codeSound, requestSound, stepSound, timesSound, sound}
+use Rattle.block.specs.Record.{Dormant, Executing, Done, Error, Aborting, Aborted, Resetting, TimedOut, freshRecord}
+use Rattle.block.specs.Sound.{only, busyOnly, doneOnly, errorOnly, abortedOnly, implies, zeroed, flagsFit, codeSound, requestSound, canAbort, stepSound, timesSound, sound}
 use Rattle.block.specs.declared.record.Flags.{Flags}
 use Rattle.block.specs.declared.record.Record.{Record}
 use Rattle.membership.proofs.Logic.{by-test, and-left, and-right}
@@ -40,10 +41,10 @@ rec n f q j c l t w = record { step = n; flags = f; request = q; job = j; code =
 
 -- the times of a sound record, and the code of its error
 abbrev pub timesFit : ℕ → ℕ → ℕ → Timer → Bool
-timesFit k l t w = leb (w .elapsed) 4294967296 && (eqb l 0 || (isEdge k && hasTimeLimit k)) && (eqb t 0 || (isEdge k && hasTimeOut k))
+timesFit k l t w = leb (w .elapsed) mostElapsed && (eqb l 0 || (isEdge k && hasTimeLimit k)) && (eqb t 0 || (isEdge k && hasTimeOut k))
 
 abbrev pub errorCode : ℕ → ℕ → Bool
-errorCode k c = not (eqb c 0) && implies (eqb c 1) (hasTimeOut k)
+errorCode k c = not (eqb c 0) && implies (eqb c TimedOut) (hasTimeOut k)
 
 -- what an end step says of the kind, the request and the code; of the code under F, that the frame's entry is in form
 abbrev pub EndFits : ℕ → Type 0 → End → Bool → ℕ → Type 0
@@ -109,18 +110,20 @@ pub beq-on : (b : Bool) → Bool·beq b true ≡ b
 beq-on true = refl
 beq-on false = refl
 
--- a kind from 5 on is an edge kind only with an abort input
-edge-aborts : (k : ℕ) → leb 5 k ≡ true → isEdge k ≡ true → hasAbort k ≡ true
+-- an edge kind that can abort has an abort input
+edge-aborts : (k : ℕ) → canAbort k ≡ true → isEdge k ≡ true → hasAbort k ≡ true
 unfolding isEdge hasAbort
-edge-aborts k h g = rw h (and-right (leb 1 k) (leb k 8) g)
+edge-aborts k h g = rw (and-left (leb 5 k) (leb k 14) h) (and-right (leb 1 k) (leb k 8) g)
 
--- and of the fourteen kinds, one that is level or has an abort input is from 5 on
-from-five : (k : ℕ) → isKind k ≡ true → (isEdge k ≡ true → hasAbort k ≡ true) → leb 5 k ≡ true
+-- and of the fourteen kinds, one that is level or has an abort input can abort
+kind-aborts : (k : ℕ) → isKind k ≡ true → (isEdge k ≡ true → hasAbort k ≡ true) → canAbort k ≡ true
 unfolding isKind isEdge hasAbort
-from-five k h f =
+kind-aborts k h f =
+    let least : leb 5 k ≡ true =
     by-test (leb k 8)
     (λ g. and-left (leb 5 k) (leb k 8) (f (rw (and-left (leb 1 k) (leb k 14) h) g)))
-    (λ g. le-leb 5 k (omega (arith, leb-false k 8 g)))
+    (λ g. le-leb 5 k (omega (arith, leb-false k 8 g))) in
+    rw least (and-right (leb 1 k) (leb k 14) h)
 
 module _ (k : ℕ) (F : Type 0) where
   busy-case : (n : ℕ) (q : Bool) (j c l t : ℕ) (w : Timer) → Parts k (rec n busy q j c l t w)
@@ -137,15 +140,15 @@ module _ (k : ℕ) (F : Type 0) where
   end-fits : (z : End) (n : ℕ) (q : Bool) (j c l t : ℕ) (w : Timer) → Parts k (rec n (endFlags z) q j c l t w) → EndFits k F z q c
   unfolding codeSound requestSound stepSound
   end-fits isDone n q j c l t w p =
-      let s = each (implies (eqb n Done || true) (not (isContinuous k))) (implies (eqb n Aborting) (leb 5 k) ∷ implies (eqb n Aborted || false) (hasAbort k) ∷ leb n 6 ∷ []) (p .step) in (
-        code-zero c (and-left (Bool·beq (not (eqb c 0)) false) (implies (eqb c 1) (hasTimeOut k)) (p .code)),
+      let s = each (implies (eqb n Done || true) (not (isContinuous k))) (implies (eqb n Aborting) (canAbort k) ∷ implies (eqb n Aborted || false) (hasAbort k) ∷ leb n Resetting ∷ []) (p .step) in (
+        code-zero c (and-left (Bool·beq (not (eqb c 0)) false) (implies (eqb c TimedOut) (hasTimeOut k)) (p .code)),
         not-true (isContinuous k) (due (eqb n Done) (not (isContinuous k)) (s .0)),
         λ g. not-true q (rw g at (p .request)),
       )
   end-fits isError n q j c l t w p = λ f. rw beq-on at (p .code)
   end-fits isAborted n q j c l t w p =
-      let s = each (implies (eqb n Done || false) (not (isContinuous k))) (implies (eqb n Aborting) (leb 5 k) ∷ implies (eqb n Aborted || true) (hasAbort k) ∷ leb n 6 ∷ []) (p .step) in (
-        code-zero c (and-left (Bool·beq (not (eqb c 0)) false) (implies (eqb c 1) (hasTimeOut k)) (p .code)),
+      let s = each (implies (eqb n Done || false) (not (isContinuous k))) (implies (eqb n Aborting) (canAbort k) ∷ implies (eqb n Aborted || true) (hasAbort k) ∷ leb n Resetting ∷ []) (p .step) in (
+        code-zero c (and-left (Bool·beq (not (eqb c 0)) false) (implies (eqb c TimedOut) (hasTimeOut k)) (p .code)),
         due (eqb n Aborted) (hasAbort k) (s .1 .1 .0),
       )
 
@@ -187,7 +190,7 @@ module _ (k : ℕ) (F : Type 0) where
 
     read-aborting : Reads Aborting busy q j c l t w
     unfolding Reads stepSound
-    read-aborting p = busy-case Aborting q j c l t w p (aborts (edge-aborts k (and-left (leb 5 k) true (and-left (leb 5 k && true) true (p .step)))))
+    read-aborting p = busy-case Aborting q j c l t w p (aborts (edge-aborts k (and-left (canAbort k) true (and-left (canAbort k && true) true (p .step)))))
 
     module _ (f : Flags) where
       at-dormant : Reads Dormant f q j c l t w
@@ -231,7 +234,7 @@ module _ (k : ℕ) (F : Type 0) where
   unfolding Reads stepSound
   settled-of r h =
       let p = parts k r h in
-      let s = each (implies (eqb (r .step) Done || r .flags .done) (not (isContinuous k))) (implies (eqb (r .step) Aborting) (leb 5 k) ∷ implies (eqb (r .step) Aborted || r .flags .aborted) (hasAbort k) ∷ leb (r .step) 6 ∷ []) (p .step) in
+      let s = each (implies (eqb (r .step) Done || r .flags .done) (not (isContinuous k))) (implies (eqb (r .step) Aborting) (canAbort k) ∷ implies (eqb (r .step) Aborted || r .flags .aborted) (hasAbort k) ∷ leb (r .step) Resetting ∷ []) (p .step) in
       to-six (λ n. Reads n (r .flags) (r .request) (r .job) (r .code) (r .limit) (r .timeout) (r .timer)) (r .step) (s .1 .1 .1)
       (at-dormant (r .request) (r .job) (r .code) (r .limit) (r .timeout) (r .timer) (r .flags))
       (at-executing (r .request) (r .job) (r .code) (r .limit) (r .timeout) (r .timer) (r .flags))
@@ -247,7 +250,7 @@ pub sound-of : (k : ℕ) (F : Type 0) → isKind k ≡ true → F → (r : Recor
 unfolding sound zeroed flagsFit codeSound requestSound stepSound timesSound
 sound-of k F h f r idle = refl
 sound-of k F h f r (runs x) = x
-sound-of k F h f r (aborts a x) = rw (from-five k h a) x
+sound-of k F h f r (aborts a x) = rw (kind-aborts k h a) x
 sound-of k F h f r (shows isDone e x) =
     by-test (isEdge k) (λ g. rw (e .0, e .1, g) (rw g at x)) (λ g. rw (e .0, e .1, e .2 g, g) (rw g at x))
 sound-of k F h f r (shows isError e x) = rw (beq-on, e f) x

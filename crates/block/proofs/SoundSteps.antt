@@ -5,16 +5,17 @@ use mathlib.Core.Path.{_≡_, refl, ap, sym, _∙_}
 use lib.Dec.{eqb, leb}
 use borrow.Author.Tests.{eqb-true}
 use Rattle.kind.specs.Kind.{isEdge, hasAbort, hasTimeLimit, hasTimeOut, isContinuous}
+use Rattle.clock.specs.Clock.{mostElapsed}
 use Rattle.clock.specs.declared.Timer.{Timer}
-use Rattle.block.specs.Record.{Dormant, Executing, Done, Error, Aborting, Aborted, Resetting, atStep}
-use Rattle.block.specs.Sound.{busyOnly, doneOnly, errorOnly, abortedOnly, implies, zeroed, flagsFit, codeSound, requestSound, stepSound, timesSound, sound}
+use Rattle.block.specs.Record.{Dormant, Executing, Done, Error, Aborting, Aborted, Resetting, TimedOut, atStep}
+use Rattle.block.specs.Sound.{busyOnly, doneOnly, errorOnly, abortedOnly, implies, zeroed, flagsFit, codeSound, requestSound, canAbort, stepSound, timesSound, sound}
 use Rattle.block.specs.declared.record.Record.{Record}
 use Rattle.membership.proofs.Logic.{by-test}
 use Rattle.block.proofs.Tests.{none, never, to-six}
 use Rattle.block.proofs.Shapes.{flagsOf, rec, fresh-is, beq-on}
 
 -- the code without the error flag
-no-code : (c : ℕ) (timeOut : Bool) → Bool·beq (not (eqb c 0)) false && implies (eqb c 1) timeOut ≡ eqb c 0
+no-code : (c : ℕ) (timeOut : Bool) → Bool·beq (not (eqb c 0)) false && implies (eqb c TimedOut) timeOut ≡ eqb c 0
 no-code c timeOut = by-test (eqb c 0) (λ e. rw (eqb-true c 0 e)) (λ e. rw e)
 
 -- the rest of a record, its flags given one by one
@@ -58,7 +59,7 @@ module _ (k : ℕ) (j l t : ℕ) (w : Timer) where
 
   error-flags : (b d x a q : Bool) (c : ℕ)
       → sound k (rec Error (flagsOf b d x a) q j c l t w)
-      ≡ errorOnly (flagsOf b d x a) && not (eqb c 0) && (not (eqb c 1) || hasTimeOut k) && timesSound k (rec Error (flagsOf b d x a) q j c l t w)
+      ≡ errorOnly (flagsOf b d x a) && not (eqb c 0) && (not (eqb c TimedOut) || hasTimeOut k) && timesSound k (rec Error (flagsOf b d x a) q j c l t w)
   unfolding sound flagsFit codeSound requestSound stepSound
   error-flags true d x a q c = refl
   error-flags false true x a q c = refl
@@ -66,8 +67,8 @@ module _ (k : ℕ) (j l t : ℕ) (w : Timer) where
   error-flags false false true true q c = refl
   error-flags false false true false q c =
       let times = timesSound k (rec Error (flagsOf false false true false) q j c l t w) in
-      ap (λ (code : Bool). code && implies (eqb c 1) (hasTimeOut k) && true && true && times) (beq-on (not (eqb c 0)))
-      ∙ plain (not (eqb c 0) && implies (eqb c 1) (hasTimeOut k)) times
+      ap (λ (code : Bool). code && implies (eqb c TimedOut) (hasTimeOut k) && true && true && times) (beq-on (not (eqb c 0)))
+      ∙ plain (not (eqb c 0) && implies (eqb c TimedOut) (hasTimeOut k)) times
     where
       plain : (code times : Bool) → code && true && true && times ≡ code && times
       plain true times = refl
@@ -150,9 +151,9 @@ no-times false true true x y h = refl
 
 -- the laws of a record, step by step
 module _ (k : ℕ) (r : Record) where
-  pub times-none : eqb (r .limit) 0 && eqb (r .timeout) 0 ≡ true → leb (r .timer .elapsed) 4294967296 ≡ timesSound k r
+  pub times-none : eqb (r .limit) 0 && eqb (r .timeout) 0 ≡ true → leb (r .timer .elapsed) mostElapsed ≡ timesSound k r
   unfolding timesSound
-  times-none h = no-times (leb (r .timer .elapsed) 4294967296) (eqb (r .limit) 0) (eqb (r .timeout) 0) (isEdge k && hasTimeLimit k) (isEdge k && hasTimeOut k) h
+  times-none h = no-times (leb (r .timer .elapsed) mostElapsed) (eqb (r .limit) 0) (eqb (r .timeout) 0) (isEdge k && hasTimeLimit k) (isEdge k && hasTimeOut k) h
 
   pub at-step : (n : ℕ) → r .step ≡ n → sound k r ≡ sound k (atStep n r)
   at-step n h = ap (λ (m : ℕ). sound k (atStep m r)) h
@@ -176,7 +177,7 @@ module _ (k : ℕ) (r : Record) where
   unfolding timesSound
   at-done = done-flags k (r .job) (r .limit) (r .timeout) (r .timer) (r .flags .busy) (r .flags .done) (r .flags .error) (r .flags .aborted) (r .request) (r .code)
 
-  pub at-error : sound k (atStep Error r) ≡ errorOnly (r .flags) && not (eqb (r .code) 0) && (not (eqb (r .code) 1) || hasTimeOut k) && timesSound k r
+  pub at-error : sound k (atStep Error r) ≡ errorOnly (r .flags) && not (eqb (r .code) 0) && (not (eqb (r .code) TimedOut) || hasTimeOut k) && timesSound k r
   unfolding timesSound
   at-error = error-flags k (r .job) (r .limit) (r .timeout) (r .timer) (r .flags .busy) (r .flags .done) (r .flags .error) (r .flags .aborted) (r .request) (r .code)
 
@@ -184,12 +185,12 @@ module _ (k : ℕ) (r : Record) where
   unfolding timesSound
   at-aborted = aborted-flags k (r .job) (r .limit) (r .timeout) (r .timer) (r .flags .busy) (r .flags .done) (r .flags .error) (r .flags .aborted) (r .request) (r .code)
 
-  pub at-aborting : sound k (atStep Aborting r) ≡ leb 5 k && sound k (atStep Executing r)
+  pub at-aborting : sound k (atStep Aborting r) ≡ canAbort k && sound k (atStep Executing r)
   unfolding sound flagsFit codeSound requestSound stepSound timesSound
   at-aborting =
-      plain (flagsFit k Executing (r .flags) && codeSound k r && requestSound k r) (implies (r .flags .done) (not (isContinuous k))) (leb 5 k) (implies (r .flags .aborted) (hasAbort k)) (timesSound k r)
+      plain (flagsFit k Executing (r .flags) && codeSound k r && requestSound k r) (implies (r .flags .done) (not (isContinuous k))) (canAbort k) (implies (r .flags .aborted) (hasAbort k)) (timesSound k r)
     where
-      plain : (front done five aborted times : Bool) → front && (done && five && aborted && true) && times ≡ five && (front && (done && true && aborted && true) && times)
+      plain : (front done can aborted times : Bool) → front && (done && can && aborted && true) && times ≡ can && (front && (done && true && aborted && true) && times)
       plain front done true aborted times = refl
       plain false done false aborted times = refl
       plain true true false aborted times = refl
@@ -212,13 +213,13 @@ module _ (k : ℕ) (r : Record) where
       → (r .step ≡ Resetting → ⊥) → sound k r ≡ false
   unfolding sound stepSound
   no-step dormant executing done error aborting aborted resetting =
-      by-test (leb (r .step) 6)
+      by-test (leb (r .step) Resetting)
       (λ h. to-six (λ (n : ℕ). r .step ≡ n → sound k r ≡ false) (r .step) h
       (λ e. absurd (dormant e)) (λ e. absurd (executing e)) (λ e. absurd (done e)) (λ e. absurd (error e)) (λ e. absurd (aborting e)) (λ e. absurd (aborted e)) (λ e. absurd (resetting e))
       refl)
       (λ h. last (implies (eqb (r .step) Dormant) (zeroed r) && flagsFit k (r .step) (r .flags) && codeSound k r && requestSound k r)
-      (implies (eqb (r .step) Done || r .flags .done) (not (isContinuous k)) && implies (eqb (r .step) Aborting) (leb 5 k) && implies (eqb (r .step) Aborted || r .flags .aborted) (hasAbort k))
-      (leb (r .step) 6) (timesSound k r) h)
+      (implies (eqb (r .step) Done || r .flags .done) (not (isContinuous k)) && implies (eqb (r .step) Aborting) (canAbort k) && implies (eqb (r .step) Aborted || r .flags .aborted) (hasAbort k))
+      (leb (r .step) Resetting) (timesSound k r) h)
     where
       last : (front step six times : Bool) → six ≡ false → front && (step && six) && times ≡ false
       last front step true times h = never h

@@ -8,7 +8,7 @@ use mathlib.Core.Logic.{_≢_}
 use mathlib.Core.Path.{_≡_, _∙_, sym}
 use lib.ListN.{take}
 use borrow.Author.Tests.{ne-eqb, ltb-false}
-use Rattle.clock.specs.Clock.{start, tick, past, pastTimeOut}
+use Rattle.clock.specs.Clock.{clockModulus, start, tick, past, pastTimeOut}
 use Rattle.clock.proofs.ClockLaws.{tick-start}
 use Rattle.block.specs.Record.{Executing}
 use Rattle.block.specs.Entry.{entryFits}
@@ -44,7 +44,7 @@ rank-executing : (r : Record) → r .step ≡ Executing → rank r ≡ 3
 unfolding rank
 rank-executing r h = rw h
 
-module _ (k : ℕ) (i : Inputs) (e : Entry) (fits : e .clock < 4294967296) where
+module _ (k : ℕ) (i : Inputs) (e : Entry) (fits : e .clock < clockModulus) where
   -- a pass that goes on, and the rest of the call after it
   joined : (r : Record) (p : Pass) (o : Outcome) → Goes k e r p → Events k e (p .next) o → Timing k e (p .next) o → Timing k e r (first p o)
   unfolding hasStart
@@ -79,5 +79,5 @@ module _ (k : ℕ) (i : Inputs) (e : Entry) (fits : e .clock < 4294967296) where
       let p = passed k i e s in
       joined r (pass k i e r) o (p .goes h) (events (p .after) c) (timing (p .after) c x)
 
-pub call-time : {k : ℕ} {i : Inputs} {e : Entry} {r : Record} {o : Outcome} → e .clock < 4294967296 → sound k r ≡ true → Call k i e r o → o .next .step ≡ Executing → Timing k e r o
+pub call-time : {k : ℕ} {i : Inputs} {e : Entry} {r : Record} {o : Outcome} → e .clock < clockModulus → sound k r ≡ true → Call k i e r o → o .next .step ≡ Executing → Timing k e r o
 call-time {k} {i} {e} {r} {o} fits h c = timing k i e fits (settled (settled-of k (entryFits e ≡ true) r h)) c

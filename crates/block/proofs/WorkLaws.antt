@@ -10,10 +10,10 @@ use lib.Dec.{eqb, leb, ltb}
 use lib.ListN.{take}
 use borrow.Author.Tests.{eqb-true, le-leb}
 use Rattle.kind.specs.Kind.{hasTimeLimit}
-use Rattle.clock.specs.Clock.{tick}
+use Rattle.clock.specs.Clock.{mostElapsed, tick}
 use Rattle.clock.specs.declared.Timer.{Timer}
 use Rattle.clock.proofs.ClockLaws.{tick-held}
-use Rattle.block.specs.Entry.{ErrorReply, codeFits, pieceForm, zeroPiece, pieceFits, piecesFit, entryFits}
+use Rattle.block.specs.Entry.{Complete, ErrorReply, mostPieces, leastErrorCode, codeFits, pieceForm, zeroPiece, pieceFits, piecesFit, entryFits}
 use Rattle.block.specs.Executing.{atCall, usePiece, endsPieces, usePieces, boundsOf, worked}
 use Rattle.block.specs.History.{tickAll, clocksOf}
 use Rattle.block.specs.declared.record.Record.{Record}
@@ -41,12 +41,12 @@ uses several b w (suc n) (p ∷ ps) =
 
 -- an error reply has a code of 2 or more
 abbrev Coded : ℕ → ℕ → Type 0
-Coded reply code = eqb reply ErrorReply ≡ true → leb 2 code ≡ true
+Coded reply code = eqb reply ErrorReply ≡ true → leb leastErrorCode code ≡ true
 
 pub coded : (reply code : ℕ) → codeFits reply code ≡ true → Coded reply code
 coded reply code h e =
-    or-cases (eqb reply ErrorReply && leb 2 code) (not (eqb reply ErrorReply) && eqb code 0) h
-    (λ g. and-right (eqb reply ErrorReply) (leb 2 code) g)
+    or-cases (eqb reply ErrorReply && leb leastErrorCode code) (not (eqb reply ErrorReply) && eqb code 0) h
+    (λ g. and-right (eqb reply ErrorReply) (leb leastErrorCode code) g)
     (λ g. none (rw e at (and-left (not (eqb reply ErrorReply)) (eqb code 0) g)))
 
 coded-piece : (n i : ℕ) (p : Piece) → pieceFits n i p ≡ true → Coded (p .reply) (p .code)
@@ -60,9 +60,9 @@ coded-piece n i p h e =
 -- what the reply, the code and the time of the work are
 record Fair (form : Bool) (w : Work) : Type 0 where
   code : form ≡ true → Coded (w .reply) (w .code)
-  held : leb (w .timer .elapsed) 4294967296 ≡ true
+  held : leb (w .timer .elapsed) mostElapsed ≡ true
 
-held-tick : (t : Timer) (c : ℕ) → leb (tick t c .elapsed) 4294967296 ≡ true
+held-tick : (t : Timer) (c : ℕ) → leb (tick t c .elapsed) mostElapsed ≡ true
 held-tick t c = le-leb _ _ (tick-held t c)
 
 fair-pieces : (form several : Bool) (b : Bounds) (w : Work) (n c i : ℕ) (ps : List Piece) → (form ≡ true → piecesFit c i ps ≡ true) → Fair form w
@@ -84,14 +84,14 @@ pub record Form (e : Entry) : Type 0 where
 pub form : (e : Entry) → entryFits e ≡ true → Form e
 unfolding entryFits
 form e h =
-    let p = each (leb (e .count) 4) (leb (e .«abort_reply») 2 ∷ leb (e .«reset_reply») 1 ∷ codeFits (e .«abort_reply») (e .«abort_code») ∷ piecesFit (e .count) 0 (e .pieces) ∷ []) h in
+    let p = each (leb (e .count) mostPieces) (leb (e .«abort_reply») ErrorReply ∷ leb (e .«reset_reply») Complete ∷ codeFits (e .«abort_reply») (e .«abort_code») ∷ piecesFit (e .count) 0 (e .pieces) ∷ []) h in
     record { abort = p .1 .1 .1 .0; pieces = p .1 .1 .1 .1 }
 
 -- the work of Executing
 pub record Worked (e : Entry) (t : Timer) (w : Work) : Type 0 where
   pub timer : w .timer ≡ tickAll (tick t (e .clock)) (take (w .used) (clocksOf (e .pieces)))
-  pub code : entryFits e ≡ true → eqb (w .reply) ErrorReply ≡ true → leb 2 (w .code) ≡ true
-  pub held : leb (w .timer .elapsed) 4294967296 ≡ true
+  pub code : entryFits e ≡ true → eqb (w .reply) ErrorReply ≡ true → leb leastErrorCode (w .code) ≡ true
+  pub held : leb (w .timer .elapsed) mostElapsed ≡ true
 
 pub worked-laws : (k : ℕ) (e : Entry) (r : Record) → Worked e (r .timer) (worked k e r)
 worked-laws k e r =

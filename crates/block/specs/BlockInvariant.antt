@@ -7,6 +7,7 @@ use mathlib.Core.Option.{Option, none, some}
 use mathlib.Core.Path.{_≡_}
 use lib.Dec.{eqb}
 use Rattle.kind.specs.Kind.{isKind}
+use Rattle.clock.specs.Clock.{clockModulus}
 use Rattle.block.specs.Record.{Dormant, Executing, Aborting, bit}
 use Rattle.block.specs.Event.{Start, DoneEvent, Failed, AbortedEvent, Withdrawn}
 use Rattle.block.specs.Entry.{entryFits}
@@ -27,7 +28,7 @@ seenCall k i e r =
 -- a history that the machine made for a block of one of the fourteen kinds, fed any inputs and any entries in form whose clock is a reading
 pub data Made (k : ℕ) : History → Type 0 where
   noCall : isKind k ≡ true → Made k fresh
-  andCall : {h : History} → Made k h → (i : Inputs) (e : Entry) → entryFits e ≡ true → e .clock < 4294967296 → Made k (h then seenCall k i e (recordAfter h))
+  andCall : {h : History} → Made k h → (i : Inputs) (e : Entry) → entryFits e ≡ true → e .clock < clockModulus → Made k (h then seenCall k i e (recordAfter h))
 
 -- a job is open, that is started and not finished, in Executing and Aborting
 abbrev pub isOpen : ℕ → Bool

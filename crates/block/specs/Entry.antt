@@ -16,13 +16,20 @@ Complete = 1
 abbrev pub ErrorReply : ℕ
 ErrorReply = 2
 
+-- "piece count n, 0 to 4"
+abbrev pub mostPieces : ℕ
+mostPieces = 4
+
 -- "A code is 2 to 65,535 with reply 2, else 0."
+abbrev pub leastErrorCode : ℕ
+leastErrorCode = 2
+
 abbrev pub codeFits : ℕ → ℕ → Bool
-codeFits reply code = (eqb reply ErrorReply && leb 2 code) || (not (eqb reply ErrorReply) && eqb code 0)
+codeFits reply code = (eqb reply ErrorReply && leb leastErrorCode code) || (not (eqb reply ErrorReply) && eqb code 0)
 
 -- a piece as the paper says
 abbrev pub pieceForm : Piece → Bool
-pieceForm p = leb (p .reply) 2 && codeFits (p .reply) (p .code)
+pieceForm p = leb (p .reply) ErrorReply && codeFits (p .reply) (p .code)
 
 -- "Pieces past n are zero."
 abbrev pub zeroPiece : Piece → Bool
@@ -37,12 +44,12 @@ unfoldable pub piecesFit : ℕ → ℕ → List Piece → Bool
 piecesFit n i [] = true
 piecesFit n i (p ∷ ps) = pieceFits n i p && piecesFit n (suc i) ps
 
--- "piece count n, 0 to 4"; "reset never 2"
+-- what stands before the pieces; "reset never 2"
 abbrev pub headFits : Entry → Bool
 headFits e =
-    leb (e .count) 4
-    && leb (e .«abort_reply») 2
-    && leb (e .«reset_reply») 1
+    leb (e .count) mostPieces
+    && leb (e .«abort_reply») ErrorReply
+    && leb (e .«reset_reply») Complete
     && codeFits (e .«abort_reply») (e .«abort_code»)
 
 unfoldable pub entryFits : Entry → Bool

@@ -1,8 +1,9 @@
 -- Document 01, "Report and journal": the events of a block, without their position.
 use Prim.Native.Nat.{ℕ}
-use mathlib.Core.Bool.{Bool, cond, _&&_}
+use mathlib.Core.Bool.{Bool, cond}
 use mathlib.Core.List.{List, [], _∷_}
-use lib.Dec.{eqb, leb}
+use lib.Dec.{eqb}
+use Rattle.membership.specs.Membership.{within}
 use Rattle.block.specs.declared.record.Record.{Record}
 use Rattle.block.specs.declared.event.Event.{Event}
 
@@ -39,4 +40,4 @@ abbrev pub isStart : Event → Bool
 isStart v = eqb (v .kind) Start
 
 abbrev pub isFinish : Event → Bool
-isFinish v = leb 2 (v .kind) && leb (v .kind) 5
+isFinish v = within DoneEvent Withdrawn (v .kind)

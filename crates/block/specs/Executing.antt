@@ -6,7 +6,7 @@ use lib.Dec.{eqb}
 use lib.ListN.{take}
 use Rattle.kind.specs.Kind.{isEdge, hasAbort, hasTimeLimit, hasTimeOut, isContinuous}
 use Rattle.clock.specs.Clock.{tick, pastLimit, pastTimeOut}
-use Rattle.block.specs.Record.{Done, Aborting, atStep, failedWith}
+use Rattle.block.specs.Record.{Done, Aborting, TimedOut, atStep, failedWith}
 use Rattle.block.specs.Entry.{Working, Complete, ErrorReply}
 use Rattle.block.specs.Pass.{goOn, stop}
 use Rattle.block.specs.declared.record.Record.{Record}
@@ -64,7 +64,7 @@ timed w r =
 unfoldable pub judge : Bool → ℕ → Work → Record → Pass
 judge continuous timeout w r =
     cond (eqb (w .reply) ErrorReply) (goOn (w .used) (failedWith (w .code) (timed w r)))
-    (cond (pastTimeOut timeout (w .timer)) (goOn (w .used) (failedWith 1 (timed w r)))
+    (cond (pastTimeOut timeout (w .timer)) (goOn (w .used) (failedWith TimedOut (timed w r)))
     (cond (eqb (w .reply) Complete && not continuous) (goOn (w .used) (atStep Done (timed w r)))
     (stop (w .used) (timed w r))))
 

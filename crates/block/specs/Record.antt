@@ -44,6 +44,10 @@ abbrev pub atStep : ℕ → Record → Record
 atStep n r =
     record { step = n; flags = r .flags; request = r .request; job = r .job; code = r .code; limit = r .limit; timeout = r .timeout; timer = r .timer }
 
+-- "to Error with code 1": the code of a time-out
+abbrev pub TimedOut : ℕ
+TimedOut = 1
+
 -- "to Error with its code"
 abbrev pub failedWith : ℕ → Record → Record
 failedWith c r =

@@ -2,8 +2,10 @@
 use Prim.Native.Nat.{ℕ}
 use mathlib.Core.Bool.{Bool, true, false, not, _&&_, _||_, Bool·beq}
 use lib.Dec.{eqb, leb}
+use Rattle.membership.specs.Membership.{within}
 use Rattle.kind.specs.Kind.{isEdge, hasAbort, hasTimeLimit, hasTimeOut, isContinuous}
-use Rattle.block.specs.Record.{Dormant, Executing, Done, Error, Aborting, Aborted, Resetting}
+use Rattle.clock.specs.Clock.{mostElapsed}
+use Rattle.block.specs.Record.{Dormant, Executing, Done, Error, Aborting, Aborted, Resetting, TimedOut}
 use Rattle.block.specs.declared.record.Flags.{Flags}
 use Rattle.block.specs.declared.record.Record.{Record}
 
@@ -51,25 +53,29 @@ flagsFit k n f =
 
 -- "Code is nonzero exactly with the error flag, and 1 only for To kinds."
 unfoldable pub codeSound : ℕ → Record → Bool
-codeSound k r = Bool·beq (not (eqb (r .code) 0)) (r .flags .error) && implies (eqb (r .code) 1) (hasTimeOut k)
+codeSound k r = Bool·beq (not (eqb (r .code) 0)) (r .flags .error) && implies (eqb (r .code) TimedOut) (hasTimeOut k)
 
 -- "Reset request is 0 with busy, and 0 with done on level kinds."
 unfoldable pub requestSound : ℕ → Record → Bool
 requestSound k r =
     implies (r .flags .busy) (not (r .request)) && implies (r .flags .done && not (isEdge k)) (not (r .request))
 
+-- "Aborting: kinds 5-14": those with an abort input, and level kinds
+abbrev pub canAbort : ℕ → Bool
+canAbort k = within 5 14 k
+
 -- "Done step or flag: not kinds 13, 14. Aborting: kinds 5-14. Aborted step or flag: kinds 5-8." "Step is at most 6"
 unfoldable pub stepSound : ℕ → Record → Bool
 stepSound k r =
     implies (eqb (r .step) Done || r .flags .done) (not (isContinuous k))
-    && implies (eqb (r .step) Aborting) (leb 5 k)
+    && implies (eqb (r .step) Aborting) (canAbort k)
     && implies (eqb (r .step) Aborted || r .flags .aborted) (hasAbort k)
-    && leb (r .step) 6
+    && leb (r .step) Resetting
 
 -- "Elapsed is at most 4,294,967,296." "Stored time limit is 0 unless an edge TI kind, stored time-out 0 unless an edge To kind."
 unfoldable pub timesSound : ℕ → Record → Bool
 timesSound k r =
-    leb (r .timer .elapsed) 4294967296
+    leb (r .timer .elapsed) mostElapsed
     && (eqb (r .limit) 0 || (isEdge k && hasTimeLimit k))
     && (eqb (r .timeout) 0 || (isEdge k && hasTimeOut k))
 

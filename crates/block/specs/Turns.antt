@@ -6,13 +6,14 @@ use mathlib.Core.Option.{Option, none, some}
 use mathlib.Core.Path.{_≡_}
 use lib.Dec.{eqb}
 use Rattle.kind.specs.Kind.{isEdge, hasAbort, hasTimeOut, isContinuous}
+use Rattle.block.specs.Record.{TimedOut}
 use Rattle.block.specs.Event.{DoneEvent, Failed, AbortedEvent, Withdrawn, isStart, isFinish}
 use Rattle.block.specs.declared.event.Event.{Event}
 
 -- the finishes that a kind has, and the codes of its events: "code (2; 0 unless failed)", and 1 only for To kinds
 unfoldable pub admits : ℕ → Event → Bool
 admits k v =
-    cond (eqb (v .kind) Failed) (not (eqb (v .code) 0) && (not (eqb (v .code) 1) || hasTimeOut k))
+    cond (eqb (v .kind) Failed) (not (eqb (v .code) 0) && (not (eqb (v .code) TimedOut) || hasTimeOut k))
     (eqb (v .code) 0
     && (not (eqb (v .kind) DoneEvent) || not (isContinuous k))
     && (not (eqb (v .kind) AbortedEvent) || hasAbort k)

@@ -9,6 +9,7 @@ ghost use mathlib.Core.Bool.{true};
 ghost use Prim.Native.Nat.{_+_, _<_, _≤_};
 ghost use Rattle.block.specs.Sound.{sound};
 ghost use Rattle.block.specs.Record.{freshRecord};
+ghost use Rattle.block.specs.Entry.{mostPieces};
 ghost use Rattle.block.specs.Call.{Call, unchanged, callOf};
 ghost use Rattle.block.specs.CallResult.{outcomeOf, noPass, withPass};
 
@@ -95,7 +96,7 @@ impl CallResult {
 
 // One call of a block from a sound record.
 pub fn call(kind: u8, i: Inputs, e: Entry, r: Record) -> CallResult
-    requires { ⌜ (e .count ≤ 4) × (sound kind r ≡ true) ⌝ }
+    requires { ⌜ (e .count ≤ mostPieces) × (sound kind r ≡ true) ⌝ }
     ensures whole { λ a. ⌜ Call kind i e r (outcomeOf a) ⌝ }
     ensures equal { λ a. ⌜ outcomeOf a ≡ callOf kind i e r ⌝ }
 {

@@ -8,6 +8,9 @@ pub struct Inputs {
     pub abort: bool,
 }
 
+// The pieces of an entry.
+pub const PIECES: usize = 4;
+
 pub struct Piece {
     pub reply: u8,
     pub code: u16,
@@ -25,7 +28,7 @@ pub struct Entry {
     pub limit: u32,
     pub timeout: u32,
     pub clock: u32,
-    pub pieces: [Piece; 4],
+    pub pieces: [Piece; PIECES],
 }
 
 impl Entry {
@@ -34,14 +37,19 @@ impl Entry {
     pub const COMPLETE: u8 = 1;
 
     pub const ERROR: u8 = 2;
+
+    pub const MOST_PIECES: u8 = 4;
+
+    // The least code of an error reply.
+    pub const LEAST_CODE: u16 = 2;
 }
 
-// A code of 2 or more with an error reply, else 0.
+// A code from the least on with an error reply, else 0.
 pub fn code_fits(reply: u8, code: u16) -> bool
     ensures { λ r. ⌜ r ≡ codeFits reply code ⌝ }
 {
     if reply == Entry::ERROR {
-        return 2 <= code;
+        return Entry::LEAST_CODE <= code;
     }
     code == 0
 }

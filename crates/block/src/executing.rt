@@ -1,6 +1,7 @@
 // The rule of Executing.
 use crate::entry::Entry;
 use crate::entry::Inputs;
+use crate::entry::PIECES;
 use crate::entry::Piece;
 use crate::pass::Pass;
 use crate::record::Record;
@@ -8,6 +9,7 @@ use clock::Timer;
 ghost use mathlib.Core.Path.{_≡_};
 ghost use Prim.Native.Nat.{_+_, _<_, _≤_};
 ghost use lib.ListN.{take};
+ghost use Rattle.block.specs.Entry.{mostPieces};
 ghost use Rattle.block.specs.Executing.{calledOff, limitOf, timeOutOf, atCall, usePiece, endsPieces, usePieces, timed, judge, executing};
 
 // Where the pieces of a call stand: the time counted, the last reply with its code, and the pieces used.
@@ -100,8 +102,8 @@ fn ends_pieces(several: bool, b: Bounds, w: Work, p: Piece) -> bool
         | timer.past_time_out(b.timeout)
 }
 
-fn use_pieces(several: bool, b: Bounds, count: u8, ps: [Piece; 4], from: Work) -> Work
-    requires { ⌜ (count ≤ 4) × (from .used ≤ 0) ⌝ }
+fn use_pieces(several: bool, b: Bounds, count: u8, ps: [Piece; PIECES], from: Work) -> Work
+    requires { ⌜ (count ≤ mostPieces) × (from .used ≤ 0) ⌝ }
     ensures { λ w. ⌜ w ≡ usePieces several b from (take count ps) ⌝ }
 {
     let n = count as usize;
@@ -138,7 +140,7 @@ fn judge(continuous: bool, timeout: u32, w: Work, r: Record) -> Pass
     }
     let timer = w.timer;
     if timer.past_time_out(timeout) {
-        return Pass::go_on(w.used, next.failed_with(1));
+        return Pass::go_on(w.used, next.failed_with(Record::TIMED_OUT));
     }
     if complete & !continuous {
         return Pass::go_on(w.used, next.at_step(Record::DONE));
@@ -147,7 +149,7 @@ fn judge(continuous: bool, timeout: u32, w: Work, r: Record) -> Pass
 }
 
 pub fn executing(kind: u8, i: Inputs, e: Entry, r: Record) -> Pass
-    requires { ⌜ e .count ≤ 4 ⌝ }
+    requires { ⌜ e .count ≤ mostPieces ⌝ }
     ensures { λ p. ⌜ p ≡ executing kind i e r ⌝ }
 {
     if called_off(kind, i) {

@@ -5,6 +5,7 @@ use crate::event::Event;
 use crate::record::Record;
 ghost use mathlib.Core.Path.{_≡_};
 ghost use Prim.Native.Nat.{_≤_};
+ghost use Rattle.block.specs.Entry.{mostPieces};
 ghost use Rattle.block.specs.Pass.{goOn, stop};
 ghost use Rattle.block.specs.Rules.{pass};
 
@@ -44,15 +45,18 @@ impl Pass {
 
 // The pass by the rule of the record's step.
 pub fn one_pass(kind: u8, i: Inputs, e: Entry, r: Record) -> Pass
-    requires { ⌜ e .count ≤ 4 ⌝ }
+    requires { ⌜ e .count ≤ mostPieces ⌝ }
     ensures { λ p. ⌜ p ≡ pass kind i e r ⌝ }
 {
     let step = r.step;
     match step {
         Record::DORMANT => crate::dormant::dormant(kind, i, e, r),
         Record::EXECUTING => crate::executing::executing(kind, i, e, r),
+        Record::DONE => crate::ended::ended(kind, i, r),
+        Record::ERROR => crate::ended::ended(kind, i, r),
+        Record::ABORTED => crate::ended::ended(kind, i, r),
         Record::ABORTING => crate::aborting::aborting(kind, e, r),
         Record::RESETTING => crate::resetting::resetting(e, r),
-        _ => crate::ended::ended(kind, i, r),
+        _ => Pass::stop(0, r),
     }
 }

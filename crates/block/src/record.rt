@@ -37,6 +37,9 @@ impl Record {
 
     pub const RESETTING: u8 = 6;
 
+    // The error code of a time-out.
+    pub const TIMED_OUT: u16 = 1;
+
     // The fresh record, all zero.
     pub fn fresh() -> Record
         ensures { λ r. ⌜ r ≡ freshRecord ⌝ }

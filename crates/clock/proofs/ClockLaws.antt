@@ -4,7 +4,7 @@ use Prim.Native.Nat.{ℕ, _<_, _≤_}
 use mathlib.Core.Bool.{false}
 use mathlib.Core.Path.{_≡_, refl}
 use native.Mathlib.Omega.{arith}
-use Rattle.clock.specs.Clock.{since, SinceBefore, SinceAfter, start, tick, past}
+use Rattle.clock.specs.Clock.{clockModulus, mostElapsed, since, SinceBefore, SinceAfter, start, tick, past}
 use Rattle.clock.specs.declared.Timer.{Timer}
 
 pub since-before : SinceBefore
@@ -16,17 +16,17 @@ unfolding since
 since-after from to h l = omega arith
 
 -- no time passes from a reading to itself
-pub since-same : (reading : ℕ) → reading < 4294967296 → since reading reading ≡ 0
+pub since-same : (reading : ℕ) → reading < clockModulus → since reading reading ≡ 0
 unfolding since
 since-same reading h = omega arith
 
 -- elapsed is held
-pub tick-held : (t : Timer) (reading : ℕ) → tick t reading .elapsed ≤ 4294967296
+pub tick-held : (t : Timer) (reading : ℕ) → tick t reading .elapsed ≤ mostElapsed
 unfolding tick
 tick-held t reading = omega arith
 
 -- the call clock, read again in the call of the start, adds nothing
-pub tick-start : (reading : ℕ) → reading < 4294967296 → tick (start reading) reading ≡ start reading
+pub tick-start : (reading : ℕ) → reading < clockModulus → tick (start reading) reading ≡ start reading
 unfolding tick
 tick-start reading h = rw (since-same reading h)
 

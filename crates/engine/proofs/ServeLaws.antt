@@ -2,15 +2,15 @@
 -- block, which leaves all but its report entry as it was. For the proofs of
 -- `input_of`, `inputs_at`, `is_idle`, `append_events`, `write_call` and `serve`.
 use Prim.Native.Nat.{ℕ, zero, suc, _+_, _*_, _≤_}
-use native.Mathlib.Nat.{add-zero, add-assoc}
+use native.Mathlib.Nat.{add-zero}
 use native.Mathlib.Numerals.{add-one}
 use native.Mathlib.Omega.{arith}
-use mathlib.Core.List.{List, [], _∷_, _++_, append-assoc, append-nil}
+use mathlib.Core.List.{List, [], _∷_, _++_, append-nil}
 use mathlib.Core.Bool.{true, false, not}
 use mathlib.Core.Path.{_≡_, refl, ap, sym, _∙_}
 use lib.Dec.{eqb, lit<}
-use lib.ListN.{length, take, drop, getD, length-append, replicate}
-use lib.Seq.{getD-take, getD-drop, take-at, length-take-le}
+use lib.ListN.{length, take, drop, getD, replicate}
+use lib.Seq.{getD-take, getD-drop}
 use Rattle.table.specs.declared.blocks.Wiring.{Wiring}
 use borrow.Author.Tests.{not-true, eqb-true}
 use Rattle.layout.specs.Buffer.{recordLength, entryLength, reportLength, eventLength, byteAt, part, put}
@@ -18,7 +18,7 @@ use Rattle.layout.specs.RecordLayout.{flagsOf, encodeRecord, decodeRecord}
 use Rattle.layout.specs.EntryLayout.{decodeEntry, decodeInputs}
 use Rattle.layout.specs.ReportLayout.{encodeReport}
 use Rattle.layout.specs.EventLayout.{encodeEvent, encodeEvents}
-use Rattle.layout.proofs.BufferLaws.{drop-put, put-own, put-nothing, part-length}
+use Rattle.layout.proofs.BufferLaws.{put-own, put-nothing, put-next, part-length}
 use Rattle.membership.proofs.Logic.{and-left, and-right}
 use Rattle.layout.proofs.RecordLaws.{encode-fresh, decode-fresh}
 use Rattle.layout.proofs.CheckLaws.{dormant-zeros}
@@ -48,20 +48,6 @@ step-at state i = sym (getD-take recordLength (drop (recordLength * i) state) 0 
 pub bits-at : (frame : List ℕ) (i : ℕ) → decodeInputs (getD frame (entryLength * i) 0) ≡ entryIn frame i .inputs
 unfolding decodeEntry
 bits-at frame i = ap decodeInputs (sym (getD-take entryLength (drop (entryLength * i) frame) 0 0 (lit< tt) ∙ rw add-zero at (getD-drop (entryLength * i) frame 0 0)))
-
--- a value put right after another
-put-put : (at : ℕ) (v w s : List ℕ) → at + length v + length w ≤ length s → put (at + length v) w (put at v s) ≡ put at (v ++ w) s
-put-put at v w s fits =
-    let front : length (take at s ++ v) ≡ at + length v = length-append (take at s) v ∙ ap (λ (n : ℕ). n + length v) (length-take-le at s (omega arith)) in
-    let before : take (at + length v) (put at v s) ≡ take at s ++ v =
-    ap (take (at + length v)) (sym (append-assoc (take at s) v (drop (at + length v) s))) ∙ take-at (take at s ++ v) (drop (at + length v) s) (at + length v) front in
-    let after : drop (at + length v + length w) (put at v s) ≡ drop (at + length v + length w) s = drop-put at v s (omega arith) (at + length v + length w) (omega arith) in
-    rw (before, after, length-append, ← add-assoc at (length v) (length w))
-    (append-assoc (take at s) v (w ++ drop (at + length v + length w) s)
-    ∙ ap {B = List ℕ} (λ l. take at s ++ l) (sym (append-assoc v w (drop (at + length v + length w) s))))
-
-put-next : (at n : ℕ) (v w s : List ℕ) → length v ≡ n → at + n + length w ≤ length s → put (at + n) w (put at v s) ≡ put at (v ++ w) s
-put-next at n v w s full fits = ap (λ (m : ℕ). put (at + m) w (put at v s)) (sym full) ∙ put-put at v w s (omega arith)
 
 -- the events of a call: the first `count` of two, appended to a journal of n events
 module _ (n position : ℕ) (first second : Event) (count : ℕ) (journal : List ℕ) where

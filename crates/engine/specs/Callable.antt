@@ -4,6 +4,7 @@ use mathlib.Core.Bool.{true}
 use mathlib.Core.List.{List}
 use mathlib.Core.Path.{_≡_}
 use lib.ListN.{length}
+use Rattle.image.specs.Image.{mostSlots}
 use Rattle.table.specs.declared.blocks.Wiring.{Wiring}
 use Rattle.layout.specs.Buffer.{recordLength, entryLength, part}
 use Rattle.layout.specs.RecordLayout.{soundBytes}
@@ -11,7 +12,7 @@ use Rattle.engine.specs.Serve.{entryIn}
 
 -- its record and its entry
 pub record Callable (kind i : ℕ) (frame state : List ℕ) : Type 0 where
-  pub few : i < 64
+  pub few : i < mostSlots
   pub own : recordLength * i + recordLength ≤ length state
   pub entry : entryLength * i + entryLength ≤ length frame
   pub isSound : soundBytes kind (part recordLength i state) ≡ true

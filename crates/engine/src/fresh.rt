@@ -1,4 +1,5 @@
 // A fresh state, all zero.
+use image::MOST_SLOTS;
 use layout::record::RECORD_BYTES;
 use table::check::Checked;
 use table::check::check_table;
@@ -25,8 +26,8 @@ pub fn fresh(image: &[u8], state: &mut [u8]) -> Checked
     ensures numbers { λ r. ⌜ checkedAnswer r ≡ checkedAnswer (freshOf (now (image .entry)) (now (state .entry)) .answer) ⌝ }
     ensures state { λ _. ⌜ now (state .exit) ≡ freshOf (now (image .entry)) (now (state .entry)) .state ⌝ }
 {
-    let mut slots = [0u8; 64];
-    let mut positions = [0u8; 65];
+    let mut slots = [0u8; MOST_SLOTS];
+    let mut positions = [0u8; MOST_SLOTS + 1];
     let answer = check_table(image, &mut slots, &mut positions);
     let Checked::Blocks(count) = answer else {
         return answer;

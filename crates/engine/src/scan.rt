@@ -1,6 +1,7 @@
 // One scan.
 use crate::serve::serve;
 use crate::verify::verify;
+use image::MOST_SLOTS;
 use table::check::Checked;
 use table::check::check_table;
 use table::place::Place;
@@ -21,8 +22,8 @@ pub enum Scanned {
 // Every block served once, in chain order; the number of events.
 fn serve_all(
     image: &[u8],
-    slots: &[u8; 64],
-    positions: &[u8; 65],
+    slots: &[u8; MOST_SLOTS],
+    positions: &[u8; MOST_SLOTS + 1],
     count: usize,
     state: &mut [u8],
     frame: &[u8],
@@ -67,8 +68,8 @@ fn by_checks(verdict: Verdict) -> Scanned
 // Checks 20 to 41 over an accepted table's blocks, then the work; a failed check leaves every lent buffer untouched.
 fn scan_blocks(
     image: &[u8],
-    slots: &[u8; 64],
-    positions: &[u8; 65],
+    slots: &[u8; MOST_SLOTS],
+    positions: &[u8; MOST_SLOTS + 1],
     count: usize,
     state: &mut [u8],
     frame: &[u8],
@@ -118,8 +119,8 @@ pub fn scan(
     ensures report { λ _. ⌜ now (report .exit) ≡ scanOf (now (image .entry)) (now (state .entry)) (record { frame = now (frame .entry) }) (now (report .entry)) (now (journal .entry)) .report ⌝ }
     ensures journal { λ _. ⌜ now (journal .exit) ≡ scanOf (now (image .entry)) (now (state .entry)) (record { frame = now (frame .entry) }) (now (report .entry)) (now (journal .entry)) .journal ⌝ }
 {
-    let mut slots = [0u8; 64];
-    let mut positions = [0u8; 65];
+    let mut slots = [0u8; MOST_SLOTS];
+    let mut positions = [0u8; MOST_SLOTS + 1];
     let answer = check_table(image, &mut slots, &mut positions);
     let Checked::Blocks(count) = answer else {
         return by_table(answer);

@@ -11,6 +11,7 @@ use table::blocks::Wiring;
 ghost use mathlib.Core.Path.{_≡_};
 ghost use Prim.Native.Nat.{_+_, _*_, _≤_, _<_};
 ghost use lib.ListN.{length};
+ghost use Rattle.image.specs.Image.{mostSlots};
 ghost use Rattle.block.specs.Call.{callOf};
 ghost use Rattle.block.specs.CallResult.{outcomeOf};
 ghost use Rattle.layout.specs.Buffer.{recordLength, entryLength, reportLength, eventLength, put};
@@ -93,7 +94,7 @@ fn write_call(
     journal: &mut [u8],
     events: usize,
 ) -> usize
-    requires { ⌜ (i < 64) × (recordLength * i + recordLength ≤ length (now state)) × (reportLength * i + reportLength ≤ length (now report)) × (eventLength * events + 2 * eventLength ≤ length (now journal)) ⌝ }
+    requires { ⌜ (i < mostSlots) × (recordLength * i + recordLength ≤ length (now state)) × (reportLength * i + reportLength ≤ length (now report)) × (eventLength * events + 2 * eventLength ≤ length (now journal)) ⌝ }
     ensures { λ r. ⌜ record { state = now (state .exit); report = now (report .exit); journal = now (journal .exit); events = r } ≡ written i (outcomeOf a) (record { state = now (state .entry); report = now (report .entry); journal = now (journal .entry); events = events }) ⌝ }
 {
     let next = a.next;

@@ -1,4 +1,5 @@
 // Checks 20 to 41, which only read.
+use image::MOST_SLOTS;
 use layout::entry::ENTRY_BYTES;
 use layout::event::EVENT_BYTES;
 use layout::record::RECORD_BYTES;
@@ -9,6 +10,7 @@ ghost use mathlib.Core.List.{List};
 ghost use mathlib.Core.Path.{_≡_};
 ghost use Prim.Native.Nat.{_*_, _≤_};
 ghost use lib.ListN.{length};
+ghost use Rattle.image.specs.Image.{mostSlots};
 ghost use Rattle.table.specs.Check.{Accepted};
 ghost use Rattle.table.specs.Blocks.{Block, blocksOf};
 ghost use Rattle.layout.specs.Buffer.{recordLength, entryLength};
@@ -17,8 +19,8 @@ ghost use Rattle.engine.specs.Verify.{stateSound, stateCheck, frameForm,
 // Check 21: the first position whose record is not sound.
 fn check_sound(
     image: &[u8],
-    slots: &[u8; 64],
-    positions: &[u8; 65],
+    slots: &[u8; MOST_SLOTS],
+    positions: &[u8; MOST_SLOTS + 1],
     count: usize,
     state: &[u8],
 ) -> Verdict
@@ -42,8 +44,8 @@ fn check_sound(
 // Checks 20 and 21: a state of an accepted table.
 pub fn check_state(
     image: &[u8],
-    slots: &[u8; 64],
-    positions: &[u8; 65],
+    slots: &[u8; MOST_SLOTS],
+    positions: &[u8; MOST_SLOTS + 1],
     count: usize,
     state: &[u8],
 ) -> Verdict
@@ -58,7 +60,7 @@ pub fn check_state(
 
 // Check 31: the first position whose entry is not in form, whatever the blocks are.
 fn check_entries(frame: &[u8], count: usize) -> Verdict
-    requires { ⌜ count ≤ 64 ⌝ }
+    requires { ⌜ count ≤ mostSlots ⌝ }
     requires { ⌜ length (now frame) ≡ entryLength * count ⌝ }
     ensures { λ r. ⌜ ((blocks : List Block) → length blocks ≡ count → r ≡ frameForm 0 blocks (now (frame .entry))) ⌝ }
 {
@@ -76,7 +78,7 @@ fn check_entries(frame: &[u8], count: usize) -> Verdict
 
 // Checks 30 and 31: a frame for so many blocks.
 fn check_frame(frame: &[u8], count: usize) -> Verdict
-    requires { ⌜ count ≤ 64 ⌝ }
+    requires { ⌜ count ≤ mostSlots ⌝ }
     ensures { λ r. ⌜ ((blocks : List Block) → length blocks ≡ count → r ≡ frameCheck blocks (now (frame .entry))) ⌝ }
 {
     if frame.len() != ENTRY_BYTES * count {
@@ -87,7 +89,7 @@ fn check_frame(frame: &[u8], count: usize) -> Verdict
 
 // Checks 40 and 41: a report and a journal for so many blocks.
 fn check_lent(report: &[u8], journal: &[u8], count: usize) -> Verdict
-    requires { ⌜ count ≤ 64 ⌝ }
+    requires { ⌜ count ≤ mostSlots ⌝ }
     ensures { λ r. ⌜ ((blocks : List Block) → length blocks ≡ count → r ≡ lentCheck blocks (now (report .entry)) (now (journal .entry))) ⌝ }
 {
     if report.len() != REPORT_BYTES * count {
@@ -102,8 +104,8 @@ fn check_lent(report: &[u8], journal: &[u8], count: usize) -> Verdict
 // Every check of the scan below the table's, from the top down.
 pub fn verify(
     image: &[u8],
-    slots: &[u8; 64],
-    positions: &[u8; 65],
+    slots: &[u8; MOST_SLOTS],
+    positions: &[u8; MOST_SLOTS + 1],
     count: usize,
     state: &[u8],
     frame: &[u8],

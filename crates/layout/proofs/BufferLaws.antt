@@ -1,18 +1,25 @@
--- One value written in a buffer: its length, the value read back, every other window unchanged, and a part lent from a place on. Each law is
--- stated once, over the place and the size: for the writers of this crate, and for the engine's loop over state, report and journal.
+-- One value written in a buffer: its length, the value read back, every other window and byte unchanged, values put one after another, two
+-- buffers joined, and a part lent from a place on. Each law is stated once, over the place and the size: for the writers of this crate, for the
+-- engine's loop over state, report and journal, and for every crate that writes a buffer.
 use Prim.Native.Nat.{ℕ, zero, suc, _+_, _-_, _*_, _≤_, _<_}
 use mathlib.Core.Path.{_≡_, refl, ap, sym, _∙_}
 use mathlib.Core.List.{List, [], _∷_, _++_, append-assoc, append-nil}
 use mathlib.Core.Bool.{Bool, true, false}
 use native.Mathlib.Omega.{arith}
-use native.Mathlib.Nat.{add-zero, mul-suc, mul-le-mul-left}
+use native.Mathlib.Nat.{add-zero, add-assoc, mul-suc, mul-add, mul-le-mul-left}
+use native.Mathlib.Numerals.{add-one}
 use lib.Dec.{ltb}
-use lib.ListN.{length, take, drop, length-drop, length-append, drop-of-length-le, take-append-drop, replicate, length-replicate, replicate-append-replicate}
-use lib.Seq.{take-all, drop-drop, take-append-le, drop-append-le, drop-append-add, length-take-le, take-at, drop-at, getD-drop}
+use lib.ListN.{length, getD, set, take, drop, length-drop, length-append, drop-of-length-le, take-append-drop, replicate, length-replicate, replicate-append-replicate}
+use lib.Seq.{take-all, drop-drop, take-append-le, take-append-add, drop-append-le, drop-append-add, length-take-le, take-at, drop-at, getD-take, getD-drop, set-split}
 use borrow.Author.Tests.{ltb-true, ltb-false}
 use borrow.Rule.Slice.PartMut.{putMid}
+use Rattle.membership.proofs.Logic.{by-test}
 use Rattle.words.specs.Word.{Bytes}
-use Rattle.layout.specs.Buffer.{part, put}
+use Rattle.layout.specs.Buffer.{byteAt, part, put}
+
+-- a byte as a window of one
+byte-window : (l : List ℕ) (i : ℕ) → byteAt l i ≡ byteAt (take 1 (drop i l)) 0
+byte-window l i = sym (getD-take 1 (drop i l) 0 0 (omega arith) ∙ getD-drop i l 0 0 ∙ ap (byteAt l) (add-zero i))
 
 -- a value that fits at its place
 module _ (at : ℕ) (v s : List ℕ) (fits : at + length v ≤ length s) where
@@ -53,6 +60,20 @@ module _ (at : ℕ) (v s : List ℕ) (fits : at + length v ≤ length s) where
 
   pub window-after : (b m : ℕ) → at + length v ≤ b → take m (drop b (put at v s)) ≡ take m (drop b s)
   window-after b m h = ap (take m) (drop-put b h)
+
+  -- bytes: the value's own, and any other
+  pub byte-own : (k : ℕ) → k < length v → byteAt (put at v s) (at + k) ≡ byteAt v k
+  byte-own k l =
+      sym (getD-drop at (put at v s) k 0)
+      ∙ sym (getD-take (length v) (drop at (put at v s)) k 0 l)
+      ∙ ap (λ (x : List ℕ). byteAt x k) window-same
+
+  pub byte-other : (i : ℕ) → (at ≤ i → at + length v ≤ i) → byteAt (put at v s) i ≡ byteAt s i
+  byte-other i h =
+      byte-window (put at v s) i
+      ∙ ap (λ (l : List ℕ). byteAt l 0)
+      (by-test (ltb i at) (λ t. window-before i 1 (omega (arith, ltb-true i at t))) (λ t. window-after i 1 (h (ltb-false i at t))))
+      ∙ sym (byte-window s i)
 
 -- the value's own bytes put back
 pub put-own : (at n : ℕ) (s : List ℕ) → at + n ≤ length s → put at (take n (drop at s)) s ≡ s
@@ -122,6 +143,49 @@ fill-whole p n done chunk buf₀ buf ys l full e h =
 -- nothing put is no change
 pub put-nothing : (a : ℕ) (xs : List ℕ) → put a [] xs ≡ xs
 put-nothing a xs = rw add-zero (take-append-drop a xs)
+
+-- a value that fills the buffer, and a single byte
+pub put-whole : (v s : List ℕ) → length s ≡ length v → put 0 v s ≡ v
+put-whole v s e = rw (drop-of-length-le s {i = 0 + length v} (omega arith)) (append-nil v)
+
+pub put-byte : (at b : ℕ) (s : List ℕ) → at < length s → set s at b ≡ put at (b ∷ []) s
+put-byte at b s h = set-split s at b h ∙ ap (λ (n : ℕ). take at s ++ (b ∷ drop n s)) (sym (add-one at))
+
+-- a value put right after another; `n` is the first one's length
+pub put-put : (at : ℕ) (v w s : List ℕ) → at + length v + length w ≤ length s → put (at + length v) w (put at v s) ≡ put at (v ++ w) s
+put-put at v w s fits =
+    let n : ℕ = at + length v in
+    let after : List ℕ = drop (n + length w) s in
+    let l : length (take at s ++ v) ≡ n = length-append (take at s) v ∙ ap (λ (m : ℕ). m + length v) (length-take-le at s (omega arith)) in
+    let front : take n (put at v s) ≡ take at s ++ v =
+    ap (take n) (sym (append-assoc (take at s) v (drop n s))) ∙ take-at (take at s ++ v) (drop n s) n l in
+    let back : drop (n + length w) (put at v s) ≡ after = drop-put at v s (omega arith) (n + length w) (omega arith) in
+    rw (front, back, length-append, ← add-assoc at (length v) (length w))
+    (append-assoc (take at s) v (w ++ after) ∙ ap {B = List ℕ} (λ l. take at s ++ l) (sym (append-assoc v w after)))
+
+pub put-next : (at n : ℕ) (v w s : List ℕ) → length v ≡ n → at + n + length w ≤ length s → put (at + n) w (put at v s) ≡ put at (v ++ w) s
+put-next at n v w s full fits = ap (λ (m : ℕ). put (at + m) w (put at v s)) (sym full) ∙ put-put at v w s (omega arith)
+
+-- two buffers, one after the other: an entry of each, and a value put in each
+pub part-left : (size i : ℕ) (x y : List ℕ) → size * i + size ≤ length x → part size i (x ++ y) ≡ part size i x
+part-left size i x y h =
+    ap (take size) (drop-append-le (size * i) x y (omega arith)) ∙ take-append-le size (drop (size * i) x) y (simp length-drop (omega arith))
+
+pub part-right : (size by k : ℕ) (x y : List ℕ) → length x ≡ size * by → part size (by + k) (x ++ y) ≡ part size k y
+part-right size by k x y e =
+    let m : size * (by + k) ≡ length x + size * k = mul-add size by k ∙ ap (λ (a : ℕ). a + size * k) (sym e) in
+    ap (take size) (ap (λ (a : ℕ). drop a (x ++ y)) m ∙ drop-append-add x y (size * k))
+
+pub put-left : (at : ℕ) (v x y : List ℕ) → at + length v ≤ length x → put at v (x ++ y) ≡ put at v x ++ y
+put-left at v x y h =
+    let after : List ℕ = drop (at + length v) x in
+    rw (take-append-le at x y (omega arith), drop-append-le (at + length v) x y h)
+    (sym (append-assoc (take at x) (v ++ after) y ∙ ap (λ (l : List ℕ). take at x ++ l) (append-assoc v after y)))
+
+pub put-right : (at : ℕ) (v x y : List ℕ) → put (length x + at) v (x ++ y) ≡ x ++ put at v y
+put-right at v x y =
+    rw (take-append-add x y at, add-assoc (length x) at (length v), drop-append-add x y (at + length v))
+    (append-assoc x (take at y) (v ++ drop (at + length v) y))
 
 -- bytes stay bytes
 pub bytes-take : (n : ℕ) (l : List ℕ) → Bytes l → Bytes (take n l)

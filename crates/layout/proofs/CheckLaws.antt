@@ -1,5 +1,5 @@
 -- Checks 21 and 31 on bytes, with several bytes tested as one number. For `sound_bytes`, `entry_bytes` and the functions that they call.
-use Prim.Native.Nat.{ℕ, _+_, _*_, _≤_, _<_}
+use Prim.Native.Nat.{ℕ, _+_, _*_, _^_, _≤_, _<_}
 use mathlib.Core.Path.{_≡_, refl, ap, sym, _∙_}
 use mathlib.Core.Bool.{Bool, true, false, _&&_, _||_}
 use mathlib.Core.List.{List, [], _∷_}
@@ -12,15 +12,15 @@ use Rattle.words.specs.Word.{number, numberAt}
 use Rattle.words.proofs.WordLaws.{number-one, number-split, number-zero}
 use Rattle.block.specs.Record.{Dormant, freshRecord}
 use Rattle.block.specs.Sound.{zeroed, flagsFit, codeSound, requestSound, stepSound, timesSound, sound}
-use Rattle.block.specs.Entry.{codeFits, headFits, pieceForm, zeroPiece, pieceFits, piecesFit, entryFits}
+use Rattle.block.specs.Entry.{ErrorReply, codeFits, headFits, pieceForm, zeroPiece, pieceFits, piecesFit, entryFits}
 use Rattle.block.specs.declared.record.Record.{Record}
 use Rattle.block.specs.declared.entry.Piece.{Piece}
 use Rattle.block.proofs.Tests.{each}
 use Rattle.block.proofs.Shapes.{fresh-is}
 use Rattle.block.proofs.SoundSteps.{at-step, at-dormant}
-use Rattle.layout.specs.Buffer.{byteAt}
-use Rattle.layout.specs.RecordLayout.{flagsByte, flagsOf, decodeRecord, recordForm, soundBytes}
-use Rattle.layout.specs.EntryLayout.{decodePiece, decodeEntry, headForm, entryForm, entryBytes}
+use Rattle.layout.specs.Buffer.{recordLength, entryLength, jobWidth, byteAt}
+use Rattle.layout.specs.RecordLayout.{flagsByte, flagsOf, recordOffset, decodeRecord, recordForm, soundBytes}
+use Rattle.layout.specs.EntryLayout.{pieceLength, decodePiece, zeroByte, entryOffset, pieceOffset, decodeEntry, headForm, entryForm, entryBytes}
 use Rattle.layout.proofs.BitLaws.{flags-back}
 use Rattle.membership.proofs.Logic.{and-left, and-right, and-join}
 use Rattle.layout.proofs.RecordLaws.{form-bytes, sound-form, sound-record}
@@ -54,11 +54,12 @@ module _ (s : List ℕ) (i : ℕ) (h : i + 2 ≤ length s) where
           (λ t. let p : a ≤ m = leb-true a m (and-left (leb a m) (eqb b 0) t) in let q : b ≡ 0 = eqb-true b 0 (and-right (leb a m) (eqb b 0) t) in le-leb n m (omega arith))
 
 -- the form of a record
-pub form-tests : (s : List ℕ) → 32 ≤ length s → ltb (byteAt s 1) 16 && leb (numberAt 2 s 2) 1 && eqb (numberAt 2 s 10) 0 ≡ recordForm s
+pub form-tests : (s : List ℕ) → recordLength ≤ length s
+    → ltb (byteAt s (recordOffset .flags)) 16 && leb (numberAt 2 s (recordOffset .request)) 1 && eqb (numberAt 2 s 10) 0 ≡ recordForm s
 unfolding recordForm
 form-tests s h =
-    rw (pair-low s 2 (omega arith) 1 (omega arith), pair-zero s 10 (omega arith))
-    (flat (ltb (byteAt s 1) 16) (leb (byteAt s 2) 1) (eqb (byteAt s 3) 0) (eqb (byteAt s 10) 0) (eqb (byteAt s 11) 0))
+    rw (pair-low s (recordOffset .request) (omega arith) 1 (omega arith), pair-zero s 10 (omega arith))
+    (flat (ltb (byteAt s (recordOffset .flags)) 16) (leb (byteAt s (recordOffset .request)) 1) (eqb (byteAt s 3) 0) (eqb (byteAt s 10) 0) (eqb (byteAt s 11) 0))
   where
     flat : (a b c d e : Bool) → a && (b && c) && (d && e) ≡ a && b && c && d && e
     flat false b c d e = refl
@@ -66,92 +67,153 @@ form-tests s h =
     flat true true false d e = refl
     flat true true true d e = refl
 
--- "Dormant is all zero": the bytes after the step, as four numbers
-module _ (s : List ℕ) (l : 32 ≤ length s) where
-  head-number : numberAt 8 s 0 ≡ byteAt s 0 + 256 * byteAt s 1 + 65536 * byteAt s 2 + 16777216 * byteAt s 3 + 4294967296 * numberAt 4 s 4
+-- "Dormant is all zero": the bytes of a record as one number, which is four numbers of eight bytes, and the fields in each of them
+module _ (s : List ℕ) (l : recordLength ≤ length s) where
+  abbrev whole : ℕ
+  whole = numberAt recordLength s 0
+
+  abbrev word : ℕ → ℕ
+  word i = numberAt 8 s (8 * i)
+
+  abbrev byte : ℕ → ℕ
+  byte i = byteAt s i
+
+  Zeros : Type 0
+  Zeros = (word 0 ≡ 0) × (word 1 ≡ 0) × (word 2 ≡ 0) × (word 3 ≡ 0)
+
+  after-first : whole ≡ word 0 + 256 ^ 8 * numberAt 24 s 8
+  after-first = number-split 8 24 s 0 (omega arith)
+
+  after-second : numberAt 24 s 8 ≡ word 1 + 256 ^ 8 * numberAt 16 s 16
+  after-second = number-split 8 16 s 8 (omega arith)
+
+  after-third : numberAt 16 s 16 ≡ word 2 + 256 ^ 8 * word 3
+  after-third = number-split 8 8 s 16 (omega arith)
+
+  zeros : whole ≡ 0 → Zeros
+  unfolding Zeros
+  zeros z =
+      let back : numberAt 24 s 8 ≡ 0 = omega (arith, after-first) in
+      let last : numberAt 16 s 16 ≡ 0 = omega (arith, after-second) in
+      (omega (arith, after-first), omega (arith, after-second), omega (arith, after-third), omega (arith, after-third))
+
+  all-zero : Zeros → whole ≡ 0
+  unfolding Zeros
+  all-zero z =
+      let last : numberAt 16 s 16 ≡ 0 = after-third ∙ rw (z .2, z .3) in
+      let back : numberAt 24 s 8 ≡ 0 = after-second ∙ rw (z .1, last) in
+      after-first ∙ rw (z .0, back)
+
+  pub words-zero : eqb (word 0) 0 && eqb (word 1) 0 && eqb (word 2) 0 && eqb (word 3) 0 ≡ eqb whole 0
+  unfolding Zeros
+  words-zero =
+      same _ (eqb whole 0)
+      (λ h.
+      let p = each (eqb (word 0) 0) (eqb (word 1) 0 ∷ eqb (word 2) 0 ∷ eqb (word 3) 0 ∷ []) h in
+      let z : (i : ℕ) → eqb (word i) 0 ≡ true → word i ≡ 0 = λ i. eqb-true (word i) 0 in
+      eq-eqb whole 0 (all-zero (z 0 (p .0), z 1 (p .1 .0), z 2 (p .1 .1 .0), z 3 (p .1 .1 .1))))
+      (λ h. let z = zeros (eqb-true whole 0 h) in rw (z .0, z .1, z .2, z .3))
+
+  abbrev job : ℕ
+  job = numberAt jobWidth s (recordOffset .job)
+
+  abbrev code : ℕ
+  code = numberAt 2 s (recordOffset .code)
+
+  abbrev limit : ℕ
+  limit = numberAt 4 s (recordOffset .limit)
+
+  abbrev timeout : ℕ
+  timeout = numberAt 4 s (recordOffset .timeout)
+
+  abbrev last : ℕ
+  last = numberAt 4 s (recordOffset .last)
+
+  head-number : word 0 ≡ byte (recordOffset .step) + 256 * byte (recordOffset .flags) + 65536 * byte (recordOffset .request) + 16777216 * byte 3 + 4294967296 * job
   head-number = omega (arith, number-split 4 4 s 0 (omega arith), number-split 2 2 s 0 (omega arith), two-bytes s 0 (omega arith), two-bytes s 2 (omega arith))
 
-  code-number : numberAt 8 s 8 ≡ numberAt 2 s 8 + 65536 * byteAt s 10 + 16777216 * byteAt s 11 + 4294967296 * numberAt 4 s 12
+  code-number : word 1 ≡ code + 65536 * byte 10 + 16777216 * byte 11 + 4294967296 * limit
   code-number = omega (arith, number-split 4 4 s 8 (omega arith), number-split 2 2 s 8 (omega arith), two-bytes s 10 (omega arith))
 
-  times-number : numberAt 8 s 16 ≡ numberAt 4 s 16 + 4294967296 * numberAt 4 s 20
+  times-number : word 2 ≡ timeout + 4294967296 * last
   times-number = omega (arith, number-split 4 4 s 16 (omega arith))
 
-  module _ (k : ℕ) (d : byteAt s 0 ≡ 0) where
-    zero-sound : numberAt 8 s 0 ≡ 0 → numberAt 8 s 8 ≡ 0 → numberAt 8 s 16 ≡ 0 → numberAt 8 s 24 ≡ 0 → soundBytes k s ≡ true
-    unfolding soundBytes recordForm decodeRecord sound zeroed flagsFit codeSound requestSound stepSound timesSound
-    zero-sound a b c e =
-        let z1 : byteAt s 1 ≡ 0 = omega (arith, head-number) in
-        let z2 : byteAt s 2 ≡ 0 = omega (arith, head-number) in
-        let z3 : byteAt s 3 ≡ 0 = omega (arith, head-number) in
-        let job : numberAt 4 s 4 ≡ 0 = omega (arith, head-number) in
-        let code : numberAt 2 s 8 ≡ 0 = omega (arith, code-number) in
-        let z10 : byteAt s 10 ≡ 0 = omega (arith, code-number) in
-        let z11 : byteAt s 11 ≡ 0 = omega (arith, code-number) in
-        let limit : numberAt 4 s 12 ≡ 0 = omega (arith, code-number) in
-        let timeout : numberAt 4 s 16 ≡ 0 = omega (arith, times-number) in
-        let last : numberAt 4 s 20 ≡ 0 = omega (arith, times-number) in
+  module _ (k : ℕ) (d : byte (recordOffset .step) ≡ 0) where
+    zero-sound : whole ≡ 0 → soundBytes k s ≡ true
+    unfolding Zeros soundBytes recordForm decodeRecord sound zeroed flagsFit codeSound requestSound stepSound timesSound
+    zero-sound h =
+        let z = zeros h in
+        let z1 : byte (recordOffset .flags) ≡ 0 = omega (arith, head-number) in
+        let z2 : byte (recordOffset .request) ≡ 0 = omega (arith, head-number) in
+        let z3 : byte 3 ≡ 0 = omega (arith, head-number) in
+        let job-is : job ≡ 0 = omega (arith, head-number) in
+        let code-is : code ≡ 0 = omega (arith, code-number) in
+        let z10 : byte 10 ≡ 0 = omega (arith, code-number) in
+        let z11 : byte 11 ≡ 0 = omega (arith, code-number) in
+        let limit-is : limit ≡ 0 = omega (arith, code-number) in
+        let timeout-is : timeout ≡ 0 = omega (arith, times-number) in
+        let last-is : last ≡ 0 = omega (arith, times-number) in
         let form : recordForm s ≡ true = rw (z1, z2, z3, z10, z11) in
         let fields : decodeRecord s ≡ freshRecord =
-        λ i. record { step = d i; flags = flagsOf (z1 i); request = eqb (z2 i) 1; job = job i; code = code i; limit = limit i; timeout = timeout i; timer = record { last = last i; elapsed = e i } } in
+        λ i. record {
+          step = d i;
+          flags = flagsOf (z1 i);
+          request = eqb (z2 i) 1;
+          job = job-is i;
+          code = code-is i;
+          limit = limit-is i;
+          timeout = timeout-is i;
+          timer = record { last = last-is i; elapsed = z .3 i };
+        } in
         and-join (recordForm s) (sound k (decodeRecord s)) form (ap (sound k) fields)
 
-    sound-zero : soundBytes k s ≡ true → (numberAt 8 s 0 ≡ 0) × (numberAt 8 s 8 ≡ 0) × (numberAt 8 s 16 ≡ 0) × (numberAt 8 s 24 ≡ 0)
-    unfolding decodeRecord
+    sound-zero : soundBytes k s ≡ true → whole ≡ 0
+    unfolding Zeros decodeRecord
     sound-zero h =
         let f = form-bytes s (sound-form k s h) in
         let r = decodeRecord s in
         let zero : zeroed r ≡ true = sym (at-step k r Dormant d ∙ at-dormant k r) ∙ sound-record k s h in
-        let fresh : r ≡ freshRecord = fresh-is r (eq-eqb (byteAt s 0) 0 d) zero in
-        let z1 : byteAt s 1 ≡ 0 = sym (flags-back (byteAt s 1) (f .flags)) ∙ ap (λ (x : Record). flagsByte (x .flags)) fresh in
-        let request : byteAt s 2 ≡ 1 → ⊥ = eqb-false (byteAt s 2) 1 (ap (λ (x : Record). x .request) fresh) in
-        let job : numberAt 4 s 4 ≡ 0 = ap (λ (x : Record). x .job) fresh in
-        let code : numberAt 2 s 8 ≡ 0 = ap (λ (x : Record). x .code) fresh in
-        let limit : numberAt 4 s 12 ≡ 0 = ap (λ (x : Record). x .limit) fresh in
-        let timeout : numberAt 4 s 16 ≡ 0 = ap (λ (x : Record). x .timeout) fresh in
-        let last : numberAt 4 s 20 ≡ 0 = ap (λ (x : Record). x .timer .last) fresh in (
-          omega (arith, head-number, f .request, f .three, request),
-          omega (arith, code-number, f .ten, f .eleven),
-          omega (arith, times-number),
-          ap (λ (x : Record). x .timer .elapsed) fresh,
-        )
+        let fresh : r ≡ freshRecord = fresh-is r (eq-eqb (byte (recordOffset .step)) 0 d) zero in
+        let z1 : byte (recordOffset .flags) ≡ 0 = sym (flags-back (byte (recordOffset .flags)) (f .flags)) ∙ ap (λ (x : Record). flagsByte (x .flags)) fresh in
+        let z2 : byte (recordOffset .request) ≡ 1 → ⊥ = eqb-false (byte (recordOffset .request)) 1 (ap (λ (x : Record). x .request) fresh) in
+        let job-is : job ≡ 0 = ap (λ (x : Record). x .job) fresh in
+        let code-is : code ≡ 0 = ap (λ (x : Record). x .code) fresh in
+        let limit-is : limit ≡ 0 = ap (λ (x : Record). x .limit) fresh in
+        let timeout-is : timeout ≡ 0 = ap (λ (x : Record). x .timeout) fresh in
+        let last-is : last ≡ 0 = ap (λ (x : Record). x .timer .last) fresh in
+        let w0 : word 0 ≡ 0 = omega (arith, head-number, f .request, f .three, z2) in
+        let w1 : word 1 ≡ 0 = omega (arith, code-number, f .ten, f .eleven) in
+        let w2 : word 2 ≡ 0 = omega (arith, times-number) in
+        let w3 : word 3 ≡ 0 = ap (λ (x : Record). x .timer .elapsed) fresh in
+        all-zero (w0, w1, w2, w3)
 
-    pub dormant-tests : eqb (numberAt 8 s 0) 0 && eqb (numberAt 8 s 8) 0 && eqb (numberAt 8 s 16) 0 && eqb (numberAt 8 s 24) 0 ≡ soundBytes k s
-    dormant-tests =
-        same _ (soundBytes k s)
-        (λ h.
-        let p = each (eqb (numberAt 8 s 0) 0) (eqb (numberAt 8 s 8) 0 ∷ eqb (numberAt 8 s 16) 0 ∷ eqb (numberAt 8 s 24) 0 ∷ []) h in
-        zero-sound (eqb-true (numberAt 8 s 0) 0 (p .0)) (eqb-true (numberAt 8 s 8) 0 (p .1 .0)) (eqb-true (numberAt 8 s 16) 0 (p .1 .1 .0)) (eqb-true (numberAt 8 s 24) 0 (p .1 .1 .1)))
-        (λ h. let z = sound-zero h in rw (z .0, z .1, z .2, z .3))
+    pub dormant-tests : eqb whole 0 ≡ soundBytes k s
+    dormant-tests = same (eqb whole 0) (soundBytes k s) (λ h. zero-sound (eqb-true whole 0 h)) (λ h. eq-eqb whole 0 (sound-zero h))
 
-    -- so a sound Dormant record is 32 zero bytes
-    pub dormant-zeros : length s ≡ 32 → soundBytes k s ≡ true → s ≡ replicate 32 0
+    -- so a sound Dormant record is zero bytes
+    pub dormant-zeros : length s ≡ recordLength → soundBytes k s ≡ true → s ≡ replicate recordLength 0
     dormant-zeros full h =
-        let z = sound-zero h in
-        let back : numberAt 16 s 16 ≡ 0 = number-split 8 8 s 16 (omega arith) ∙ rw (z .2, z .3) in
-        let rest : numberAt 24 s 8 ≡ 0 = number-split 8 16 s 8 (omega arith) ∙ rw (z .1, back) in
-        let all : numberAt 32 s 0 ≡ 0 = number-split 8 24 s 0 (omega arith) ∙ rw (z .0, rest) in
-        let whole : take 32 s ≡ s = take-all 32 s (omega arith) in
-        number-zero s (ap number (sym whole) ∙ all) ∙ ap (λ (n : ℕ). replicate n 0) full
+        let all : take recordLength s ≡ s = take-all recordLength s (omega arith) in
+        number-zero s (ap number (sym all) ∙ sound-zero h) ∙ ap (λ (n : ℕ). replicate n 0) full
 
 -- one piece: its zero byte, and its fields
-module _ (s : List ℕ) (at : ℕ) (l : at + 8 ≤ length s) where
-  piece-number : numberAt 8 s at ≡ byteAt s at + 256 * byteAt s (at + 1) + 65536 * numberAt 2 s (at + 2) + 4294967296 * numberAt 4 s (at + 4)
+module _ (s : List ℕ) (at : ℕ) (l : at + pieceLength ≤ length s) where
+  piece-number : numberAt pieceLength s at ≡ byteAt s at + 256 * byteAt s (at + 1) + 65536 * numberAt 2 s (at + 2) + 4294967296 * numberAt 4 s (at + 4)
   piece-number = omega (arith, number-split 4 4 s at (omega arith), number-split 2 2 s at (omega arith), two-bytes s at (omega arith))
 
-  pub piece-within : leb (numberAt 2 s at) 2 && codeFits (byteAt s at) (numberAt 2 s (at + 2)) ≡ eqb (byteAt s (at + 1)) 0 && pieceForm (decodePiece s at)
+  pub piece-within : leb (numberAt 2 s at) ErrorReply && codeFits (byteAt s at) (numberAt 2 s (at + 2)) ≡ zeroByte s at && pieceForm (decodePiece s at)
   piece-within =
-      rw (pair-low s at (omega arith) 2 (omega arith))
-      (turned (leb (byteAt s at) 2) (eqb (byteAt s (at + 1)) 0) (codeFits (byteAt s at) (numberAt 2 s (at + 2))))
+      rw (pair-low s at (omega arith) ErrorReply (omega arith))
+      (swapped (leb (byteAt s at) ErrorReply) (zeroByte s at) (codeFits (byteAt s at) (numberAt 2 s (at + 2))))
     where
-      turned : (reply zero code : Bool) → reply && zero && code ≡ zero && (reply && code)
-      turned true true code = refl
-      turned true false code = refl
-      turned false true code = refl
-      turned false false code = refl
+      swapped : (reply zero code : Bool) → reply && zero && code ≡ zero && (reply && code)
+      swapped true true code = refl
+      swapped true false code = refl
+      swapped false true code = refl
+      swapped false false code = refl
 
-  pub piece-past : eqb (numberAt 8 s at) 0 ≡ eqb (byteAt s (at + 1)) 0 && zeroPiece (decodePiece s at)
-  piece-past = parts (numberAt 8 s at) (byteAt s at) (byteAt s (at + 1)) (numberAt 2 s (at + 2)) (numberAt 4 s (at + 4)) piece-number
+  pub piece-past : eqb (numberAt pieceLength s at) 0 ≡ zeroByte s at && zeroPiece (decodePiece s at)
+  piece-past = parts (numberAt pieceLength s at) (byteAt s at) (byteAt s (at + 1)) (numberAt 2 s (at + 2)) (numberAt 4 s (at + 4)) piece-number
     where
       parts : (n a b c d : ℕ) → n ≡ a + 256 * b + 65536 * c + 4294967296 * d → eqb n 0 ≡ eqb b 0 && (eqb a 0 && eqb c 0 && eqb d 0)
       parts n a b c d e =
@@ -183,8 +245,8 @@ pub piece-uncounted : (n i : ℕ) (p : Piece) (zero : Bool) → n ≤ i → zero
 piece-uncounted n i p zero h = rw (le-ltb i n h)
 
 -- the form of an entry's head
-pub head-form : (s : List ℕ) → 8 ≤ length s → ltb (byteAt s 0) 4 && eqb (numberAt 2 s 6) 0 ≡ ltb (byteAt s 0) 4 && eqb (byteAt s 6) 0 && eqb (byteAt s 7) 0
-head-form s h = rw (pair-zero s 6 (omega arith)) (flat (ltb (byteAt s 0) 4) (eqb (byteAt s 6) 0) (eqb (byteAt s 7) 0))
+pub head-form : (s : List ℕ) → entryLength ≤ length s → ltb (byteAt s (entryOffset .inputs)) 4 && eqb (numberAt 2 s 6) 0 ≡ headForm s
+head-form s h = rw (pair-zero s 6 (omega arith)) (flat (ltb (byteAt s (entryOffset .inputs)) 4) (eqb (byteAt s 6) 0) (eqb (byteAt s 7) 0))
   where
     flat : (a b c : Bool) → a && (b && c) ≡ a && b && c
     flat true b c = refl
@@ -194,8 +256,11 @@ head-form s h = rw (pair-zero s 6 (omega arith)) (flat (ltb (byteAt s 0) 4) (eqb
 abbrev pub headTest : List ℕ → Bool
 headTest s = headForm s && headFits (decodeEntry s)
 
-abbrev pub pieceTest : List ℕ → ℕ → ℕ → Bool
-pieceTest s at i = eqb (byteAt s (at + 1)) 0 && pieceFits (byteAt s 1) i (decodePiece s at)
+abbrev pub pieceTest : List ℕ → ℕ → Bool
+pieceTest s i = zeroByte s (pieceOffset i) && pieceFits (byteAt s (entryOffset .count)) i (decodePiece s (pieceOffset i))
+
+abbrev pub piecesTest : List ℕ → Bool
+piecesTest s = pieceTest s 0 && pieceTest s 1 && pieceTest s 2 && pieceTest s 3
 
 and-false : (b : Bool) → b && false ≡ false
 and-false true = refl
@@ -216,19 +281,15 @@ by-piece true true true true true true true true false t = refl
 by-piece true true true true true true true true true true = refl
 by-piece true true true true true true true true true false = refl
 
-entry-tests : (s : List ℕ) → entryBytes s ≡ headTest s && (pieceTest s 24 0 && pieceTest s 32 1 && pieceTest s 40 2 && pieceTest s 48 3)
+entry-tests : (s : List ℕ) → entryBytes s ≡ headTest s && piecesTest s
 unfolding entryBytes entryForm entryFits decodeEntry piecesFit
 entry-tests s =
-    let n = byteAt s 1 in
-    by-piece (ltb (byteAt s 0) 4 && eqb (byteAt s 6) 0 && eqb (byteAt s 7) 0)
-    (leb n 4 && leb (byteAt s 2) 2 && leb (byteAt s 3) 1 && codeFits (byteAt s 2) (numberAt 2 s 4))
-    (eqb (byteAt s 25) 0) (pieceFits n 0 (decodePiece s 24))
-    (eqb (byteAt s 33) 0) (pieceFits n 1 (decodePiece s 32))
-    (eqb (byteAt s 41) 0) (pieceFits n 2 (decodePiece s 40))
-    (eqb (byteAt s 49) 0) (pieceFits n 3 (decodePiece s 48))
+    let zero : ℕ → Bool = λ i. zeroByte s (pieceOffset i) in
+    let fits : ℕ → Bool = λ i. pieceFits (byteAt s (entryOffset .count)) i (decodePiece s (pieceOffset i)) in
+    by-piece (headForm s) (headFits (decodeEntry s)) (zero 0) (fits 0) (zero 1) (fits 1) (zero 2) (fits 2) (zero 3) (fits 3)
 
 pub entry-head : (s : List ℕ) → headTest s ≡ false → false ≡ entryBytes s
-entry-head s h = sym (entry-tests s ∙ ap (λ (head : Bool). head && (pieceTest s 24 0 && pieceTest s 32 1 && pieceTest s 40 2 && pieceTest s 48 3)) h)
+entry-head s h = sym (entry-tests s ∙ ap (λ (head : Bool). head && piecesTest s) h)
 
-pub entry-pieces : (s : List ℕ) → headTest s ≡ true → pieceTest s 24 0 && pieceTest s 32 1 && pieceTest s 40 2 && pieceTest s 48 3 ≡ entryBytes s
-entry-pieces s h = sym (entry-tests s ∙ ap (λ (head : Bool). head && (pieceTest s 24 0 && pieceTest s 32 1 && pieceTest s 40 2 && pieceTest s 48 3)) h)
+pub entry-pieces : (s : List ℕ) → headTest s ≡ true → piecesTest s ≡ entryBytes s
+entry-pieces s h = sym (entry-tests s ∙ ap (λ (head : Bool). head && piecesTest s) h)

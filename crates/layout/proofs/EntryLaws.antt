@@ -1,8 +1,8 @@
 -- Frame entries as bytes, and back: each undoes the other, and what is read fits its bytes. For the engine, which reads entries from the frame,
 -- and for programs that build frames.
-use Prim.Native.Nat.{ℕ, suc, _+_, _<_, _≤_}
+use Prim.Native.Nat.{ℕ, suc, _+_, _*_, _<_, _≤_}
 use mathlib.Core.Path.{_≡_, refl, ap, sym, _∙_}
-use mathlib.Core.Bool.{Bool, true, _&&_}
+use mathlib.Core.Bool.{Bool, true}
 use mathlib.Core.List.{List, [], _∷_, _++_, append-assoc, append-nil}
 use native.Mathlib.Omega.{arith}
 use lib.Dec.{eqb, ltb}
@@ -11,15 +11,16 @@ use lib.Seq.{length-take-le, take-at, drop-at, drop-drop}
 use borrow.Author.Tests.{ltb-true, eqb-true, lt-ltb}
 use Rattle.words.specs.Word.{Bytes, number, bytes, numberAt}
 use Rattle.words.proofs.WordLaws.{number-of-bytes}
-use Rattle.block.specs.Entry.{entryFits}
+use Rattle.block.specs.Entry.{mostPieces, entryFits}
 use Rattle.block.specs.declared.entry.Piece.{Piece}
 use Rattle.block.specs.declared.entry.Entry.{Entry}
-use Rattle.layout.specs.Buffer.{byteAt, put, jobWidth}
-use Rattle.layout.specs.EntryLayout.{encodePiece, decodePiece, encodePieces, inputsByte, encodeEntry, decodeEntry, entryForm, entryBytes}
+use Rattle.layout.specs.Buffer.{entryLength, byteAt, put, jobWidth}
+use Rattle.layout.specs.EntryLayout.{pieceLength, encodePiece, decodePiece, zeroByte, encodePieces, inputsByte, entryOffset, headLength, pieceOffset, piecesEnd, encodeEntry, decodeEntry, entryForm, entryBytes}
 use Rattle.layout.proofs.Fits.{All, nil, cons, PieceFits, EntryFits}
 use Rattle.layout.proofs.BitLaws.{inputs-bound, inputs-trip, inputs-back}
 use Rattle.layout.proofs.BufferLaws.{fill-whole}
-use Rattle.membership.proofs.Logic.{and-left, and-right, and-join}
+use Rattle.membership.proofs.Logic.{and-right, and-join}
+use Rattle.block.proofs.Tests.{each}
 use Rattle.layout.proofs.FieldLaws.{field-bound, field-back, byte-back}
 
 -- four pieces read back
@@ -27,8 +28,11 @@ piece-trip : (p : Piece) → PieceFits p → _≡_ {A = Piece} (record { reply =
 piece-trip p h =
     λ i. record { reply = p .reply; code = number-of-bytes 2 (p .code) (h .code) i; clock = number-of-bytes 4 (p .clock) (h .clock) i }
 
-pieces-trip : (ps : List Piece) → length ps ≡ 4 → All PieceFits ps
-    → decodePiece (encodePieces ps) 0 ∷ decodePiece (encodePieces ps) 8 ∷ decodePiece (encodePieces ps) 16 ∷ decodePiece (encodePieces ps) 24 ∷ [] ≡ ps
+abbrev piece-of : List Piece → ℕ → Piece
+piece-of ps i = decodePiece (encodePieces ps) (pieceLength * i)
+
+pieces-trip : (ps : List Piece) → length ps ≡ mostPieces → All PieceFits ps
+    → piece-of ps 0 ∷ piece-of ps 1 ∷ piece-of ps 2 ∷ piece-of ps 3 ∷ [] ≡ ps
 unfolding encodePieces bytes
 pieces-trip ps l nil = absurd (omega arith)
 pieces-trip ps l (cons h nil) = absurd (omega arith)
@@ -56,41 +60,35 @@ decode-encode e h =
 
 -- what the form of the bytes says
 pub record FormBytes (s : List ℕ) : Type 0 where
-  pub inputs : byteAt s 0 < 4
+  pub inputs : byteAt s (entryOffset .inputs) < 4
   pub six : byteAt s 6 ≡ 0
   pub seven : byteAt s 7 ≡ 0
-  pub first : byteAt s 25 ≡ 0
-  pub second : byteAt s 33 ≡ 0
-  pub third : byteAt s 41 ≡ 0
-  pub fourth : byteAt s 49 ≡ 0
+  pub first : byteAt s (pieceOffset 0 + 1) ≡ 0
+  pub second : byteAt s (pieceOffset 1 + 1) ≡ 0
+  pub third : byteAt s (pieceOffset 2 + 1) ≡ 0
+  pub fourth : byteAt s (pieceOffset 3 + 1) ≡ 0
 
 pub form-bytes : (s : List ℕ) → entryForm s ≡ true → FormBytes s
 unfolding entryForm
 form-bytes s h =
-    let z : ℕ → Bool = λ i. eqb (byteAt s i) 0 in
-    let t0 = ltb (byteAt s 0) 4 in
-    let t6 = t0 && z 6 in
-    let t7 = t6 && z 7 in
-    let t25 = t7 && z 25 in
-    let t33 = t25 && z 33 in
-    let t41 = t33 && z 41 in
-    let h41 : t41 ≡ true = and-left t41 (z 49) h in
-    let h33 : t33 ≡ true = and-left t33 (z 41) h41 in
-    let h25 : t25 ≡ true = and-left t25 (z 33) h33 in
-    let h7 : t7 ≡ true = and-left t7 (z 25) h25 in
-    let h6 : t6 ≡ true = and-left t6 (z 7) h7 in
+    let inputs = byteAt s (entryOffset .inputs) in
+    let six = eqb (byteAt s 6) 0 in
+    let seven = eqb (byteAt s 7) 0 in
+    let z : ℕ → Bool = λ i. zeroByte s (pieceOffset i) in
+    let at : ℕ → ℕ = λ i. byteAt s (pieceOffset i + 1) in
+    let p = each (ltb inputs 4) (six ∷ seven ∷ z 0 ∷ z 1 ∷ z 2 ∷ z 3 ∷ []) h in
     record {
-      inputs = ltb-true (byteAt s 0) 4 (and-left t0 (z 6) h6);
-      six = eqb-true (byteAt s 6) 0 (and-right t0 (z 6) h6);
-      seven = eqb-true (byteAt s 7) 0 (and-right t6 (z 7) h7);
-      first = eqb-true (byteAt s 25) 0 (and-right t7 (z 25) h25);
-      second = eqb-true (byteAt s 33) 0 (and-right t25 (z 33) h33);
-      third = eqb-true (byteAt s 41) 0 (and-right t33 (z 41) h41);
-      fourth = eqb-true (byteAt s 49) 0 (and-right t41 (z 49) h);
+      inputs = ltb-true inputs 4 (p .0);
+      six = eqb-true (byteAt s 6) 0 (p .1 .0);
+      seven = eqb-true (byteAt s 7) 0 (p .1 .1 .0);
+      first = eqb-true (at 0) 0 (p .1 .1 .1 .0);
+      second = eqb-true (at 1) 0 (p .1 .1 .1 .1 .0);
+      third = eqb-true (at 2) 0 (p .1 .1 .1 .1 .1 .0);
+      fourth = eqb-true (at 3) 0 (p .1 .1 .1 .1 .1 .1);
     }
 
 -- a piece written back, and the rest
-piece-back : (i : ℕ) (s rest : List ℕ) → Bytes s → i + 8 ≤ length s → byteAt s (i + 1) ≡ 0 → rest ≡ drop (i + 8) s
+piece-back : (i : ℕ) (s rest : List ℕ) → Bytes s → i + pieceLength ≤ length s → byteAt s (i + 1) ≡ 0 → rest ≡ drop (i + pieceLength) s
     → encodePiece (decodePiece s i) ++ rest ≡ drop i s
 piece-back i s rest b h z e =
     let e₁ : i + 1 ≡ suc i = omega arith in
@@ -104,25 +102,25 @@ piece-back i s rest b h z e =
     append-assoc code clock rest ∙ field-back 2 (i + 2) s (clock ++ rest) b (omega arith) (rw e₄ two) in
     byte-back i (byteAt s i) s _ (omega arith) refl (byte-back (suc i) 0 s _ (omega arith) (sym (rw e₁ at z)) (rw e₂ three))
 
-pub encode-decode : (s : List ℕ) → length s ≡ 56 → Bytes s → entryForm s ≡ true → encodeEntry (decodeEntry s) ≡ s
+pub encode-decode : (s : List ℕ) → length s ≡ entryLength → Bytes s → entryForm s ≡ true → encodeEntry (decodeEntry s) ≡ s
 unfolding encodeEntry decodeEntry encodePieces
 encode-decode s l b h =
     let f = form-bytes s h in
-    byte-back 0 _ s _ (omega arith) (inputs-back (byteAt s 0) (f .inputs))
-    (byte-back 1 _ s _ (omega arith) refl
-    (byte-back 2 _ s _ (omega arith) refl
-    (byte-back 3 _ s _ (omega arith) refl
-    (field-back 2 4 s _ b (omega arith)
+    byte-back (entryOffset .inputs) _ s _ (omega arith) (inputs-back (byteAt s (entryOffset .inputs)) (f .inputs))
+    (byte-back (entryOffset .count) _ s _ (omega arith) refl
+    (byte-back (entryOffset .abortReply) _ s _ (omega arith) refl
+    (byte-back (entryOffset .resetReply) _ s _ (omega arith) refl
+    (field-back 2 (entryOffset .abortCode) s _ b (omega arith)
     (byte-back 6 _ s _ (omega arith) (sym (f .six))
     (byte-back 7 _ s _ (omega arith) (sym (f .seven))
-    (field-back jobWidth 8 s _ b (omega arith)
-    (field-back 4 12 s _ b (omega arith)
-    (field-back 4 16 s _ b (omega arith)
-    (field-back 4 20 s _ b (omega arith)
-    (piece-back 24 s _ b (omega arith) (f .first)
-    (piece-back 32 s _ b (omega arith) (f .second)
-    (piece-back 40 s _ b (omega arith) (f .third)
-    (piece-back 48 s [] b (omega arith) (f .fourth) (sym (drop-of-length-le s {i = 56} (omega arith)))))))))))))))))
+    (field-back jobWidth (entryOffset .job) s _ b (omega arith)
+    (field-back 4 (entryOffset .limit) s _ b (omega arith)
+    (field-back 4 (entryOffset .timeout) s _ b (omega arith)
+    (field-back 4 (entryOffset .clock) s _ b (omega arith)
+    (piece-back (pieceOffset 0) s _ b (omega arith) (f .first)
+    (piece-back (pieceOffset 1) s _ b (omega arith) (f .second)
+    (piece-back (pieceOffset 2) s _ b (omega arith) (f .third)
+    (piece-back (pieceOffset 3) s [] b (omega arith) (f .fourth) (sym (drop-of-length-le s {i = piecesEnd} (omega arith)))))))))))))))))
 
 -- what is read fits
 piece-fits : (i : ℕ) (s : List ℕ) → Bytes s → PieceFits (decodePiece s i)
@@ -132,20 +130,22 @@ pub decode-fits : (s : List ℕ) → Bytes s → EntryFits (decodeEntry s)
 unfolding decodeEntry
 decode-fits s b =
     record {
-      count = b 1;
-      abortReply = b 2;
-      resetReply = b 3;
-      abortCode = field-bound 2 4 s b;
-      job = field-bound jobWidth 8 s b;
-      limit = field-bound 4 12 s b;
-      timeout = field-bound 4 16 s b;
-      clock = field-bound 4 20 s b;
+      count = b (entryOffset .count);
+      abortReply = b (entryOffset .abortReply);
+      resetReply = b (entryOffset .resetReply);
+      abortCode = field-bound 2 (entryOffset .abortCode) s b;
+      job = field-bound jobWidth (entryOffset .job) s b;
+      limit = field-bound 4 (entryOffset .limit) s b;
+      timeout = field-bound 4 (entryOffset .timeout) s b;
+      clock = field-bound 4 (entryOffset .clock) s b;
       four = refl;
-      pieces = cons (piece-fits 24 s b) (cons (piece-fits 32 s b) (cons (piece-fits 40 s b) (cons (piece-fits 48 s b) nil)));
+      pieces =
+          cons (piece-fits (pieceOffset 0) s b)
+          (cons (piece-fits (pieceOffset 1) s b) (cons (piece-fits (pieceOffset 2) s b) (cons (piece-fits (pieceOffset 3) s b) nil)));
     }
 
--- what is written: 56 bytes, in form
-pieces-length : (ps : List Piece) → length ps ≡ 4 → length (encodePieces ps) ≡ 32
+-- what is written: its length, in form
+pieces-length : (ps : List Piece) → length ps ≡ mostPieces → length (encodePieces ps) ≡ pieceLength * mostPieces
 unfolding encodePieces bytes
 pieces-length [] l = absurd (omega arith)
 pieces-length (p ∷ []) l = absurd (omega arith)
@@ -154,13 +154,16 @@ pieces-length (p ∷ q ∷ r ∷ []) l = absurd (omega arith)
 pieces-length (p ∷ q ∷ r ∷ s ∷ []) l = refl
 pieces-length (p ∷ q ∷ r ∷ s ∷ t ∷ ps) l = absurd (omega arith)
 
-pub encode-length : (e : Entry) → length (e .pieces) ≡ 4 → length (encodeEntry e) ≡ 56
+pub encode-length : (e : Entry) → length (e .pieces) ≡ mostPieces → length (encodeEntry e) ≡ entryLength
 unfolding encodeEntry bytes
 encode-length e l = omega (arith, pieces-length (e .pieces) l)
 
 -- the zero byte of each of four pieces
-pieces-form : (ps : List Piece) → length ps ≡ 4
-    → (byteAt (encodePieces ps) 1 ≡ 0) × (byteAt (encodePieces ps) 9 ≡ 0) × (byteAt (encodePieces ps) 17 ≡ 0) × (byteAt (encodePieces ps) 25 ≡ 0)
+abbrev zero-of : List Piece → ℕ → ℕ
+zero-of ps i = byteAt (encodePieces ps) (pieceLength * i + 1)
+
+pieces-form : (ps : List Piece) → length ps ≡ mostPieces
+    → (zero-of ps 0 ≡ 0) × (zero-of ps 1 ≡ 0) × (zero-of ps 2 ≡ 0) × (zero-of ps 3 ≡ 0)
 unfolding encodePieces bytes
 pieces-form [] l = absurd (omega arith)
 pieces-form (p ∷ []) l = absurd (omega arith)
@@ -169,14 +172,14 @@ pieces-form (p ∷ q ∷ r ∷ []) l = absurd (omega arith)
 pieces-form (p ∷ q ∷ r ∷ s ∷ []) l = (refl, refl, refl, refl)
 pieces-form (p ∷ q ∷ r ∷ s ∷ t ∷ ps) l = absurd (omega arith)
 
-pub encode-form : (e : Entry) → length (e .pieces) ≡ 4 → entryForm (encodeEntry e) ≡ true
+pub encode-form : (e : Entry) → length (e .pieces) ≡ mostPieces → entryForm (encodeEntry e) ≡ true
 unfolding entryForm encodeEntry bytes
 encode-form e l =
     let z = pieces-form (e .pieces) l in
     rw (lt-ltb (inputsByte (e .inputs)) 4 (inputs-bound (e .inputs)), z .0, z .1, z .2, z .3)
 
 -- four pieces put one by one
-pieces-parts : (d : Piece) (ps : List Piece) → length ps ≡ 4
+pieces-parts : (d : Piece) (ps : List Piece) → length ps ≡ mostPieces
     → encodePiece (getD ps 0 d) ++ (encodePiece (getD ps 1 d) ++ (encodePiece (getD ps 2 d) ++ (encodePiece (getD ps 3 d) ++ []))) ≡ encodePieces ps
 unfolding encodePieces
 pieces-parts d [] l = absurd (omega arith)
@@ -186,58 +189,60 @@ pieces-parts d (p ∷ q ∷ r ∷ []) l = absurd (omega arith)
 pieces-parts d (p ∷ q ∷ r ∷ s ∷ []) l = refl
 pieces-parts d (p ∷ q ∷ r ∷ s ∷ t ∷ ps) l = absurd (omega arith)
 
-piece-length : (p : Piece) → length (encodePiece p) ≡ 8
+piece-length : (p : Piece) → length (encodePiece p) ≡ pieceLength
 unfolding bytes
 piece-length p = refl
 
-grown : (n : ℕ) (l : List ℕ) (p : Piece) → length l ≡ n → length (l ++ encodePiece p) ≡ n + 8
+grown : (n : ℕ) (l : List ℕ) (p : Piece) → length l ≡ n → length (l ++ encodePiece p) ≡ n + pieceLength
 grown n l p h = length-append l (encodePiece p) ∙ omega (arith, piece-length p)
 
 regroup : (h a b c d x : List ℕ) → h ++ a ++ b ++ c ++ d ++ x ≡ h ++ (a ++ (b ++ (c ++ (d ++ []))) ++ x)
 regroup h a b c d x = simp (append-assoc, append-nil)
 
-pub pieces-put : (z : Piece) (ps : List Piece) (s s₁ s₂ s₃ s₄ : List ℕ) → length ps ≡ 4 → 56 ≤ length s
-    → s₁ ≡ put 24 (encodePiece (getD ps 0 z)) s
-    → s₂ ≡ put 32 (encodePiece (getD ps 1 z)) s₁
-    → s₃ ≡ put 40 (encodePiece (getD ps 2 z)) s₂
-    → s₄ ≡ put 48 (encodePiece (getD ps 3 z)) s₃
-    → s₄ ≡ take 24 s ++ (encodePieces ps ++ drop 56 s)
+pub pieces-put : (z : Piece) (ps : List Piece) (s s₁ s₂ s₃ s₄ : List ℕ) → length ps ≡ mostPieces → piecesEnd ≤ length s
+    → s₁ ≡ put (pieceOffset 0) (encodePiece (getD ps 0 z)) s
+    → s₂ ≡ put (pieceOffset 1) (encodePiece (getD ps 1 z)) s₁
+    → s₃ ≡ put (pieceOffset 2) (encodePiece (getD ps 2 z)) s₂
+    → s₄ ≡ put (pieceOffset 3) (encodePiece (getD ps 3 z)) s₃
+    → s₄ ≡ take headLength s ++ (encodePieces ps ++ drop piecesEnd s)
 pieces-put z ps s s₁ s₂ s₃ s₄ l f e₁ e₂ e₃ e₄ =
     let p : ℕ → Piece = λ i. getD ps i z in
     let a : List ℕ = encodePiece (p 0) in
     let b : List ℕ = encodePiece (p 1) in
     let c : List ℕ = encodePiece (p 2) in
     let d : List ℕ = encodePiece (p 3) in
-    let h : List ℕ = take 24 s in
-    let l₀ : length h ≡ 24 = length-take-le 24 s (omega arith) in
-    let l₁ : length (h ++ a) ≡ 32 = grown 24 h (p 0) l₀ in
-    let l₂ : length (h ++ a ++ b) ≡ 40 = grown 32 (h ++ a) (p 1) l₁ in
-    let l₃ : length (h ++ a ++ b ++ c) ≡ 48 = grown 40 (h ++ a ++ b) (p 2) l₂ in
-    let g₁ = fill-whole 24 8 h a s s s₁ l₀ (piece-length (p 0)) (sym (take-append-drop 24 s)) e₁ in
-    let g₂ = fill-whole 32 8 (h ++ a) b s s₁ s₂ l₁ (piece-length (p 1)) g₁ e₂ in
-    let g₃ = fill-whole 40 8 (h ++ a ++ b) c s s₂ s₃ l₂ (piece-length (p 2)) g₂ e₃ in
-    let g₄ = fill-whole 48 8 (h ++ a ++ b ++ c) d s s₃ s₄ l₃ (piece-length (p 3)) g₃ e₄ in
-    g₄ ∙ regroup h a b c d (drop 56 s) ∙ ap (λ (x : List ℕ). h ++ (x ++ drop 56 s)) (pieces-parts z ps l)
+    let h : List ℕ = take headLength s in
+    let l₀ : length h ≡ headLength = length-take-le headLength s (omega arith) in
+    let l₁ : length (h ++ a) ≡ pieceOffset 1 = grown (pieceOffset 0) h (p 0) l₀ in
+    let l₂ : length (h ++ a ++ b) ≡ pieceOffset 2 = grown (pieceOffset 1) (h ++ a) (p 1) l₁ in
+    let l₃ : length (h ++ a ++ b ++ c) ≡ pieceOffset 3 = grown (pieceOffset 2) (h ++ a ++ b) (p 2) l₂ in
+    let g₁ = fill-whole (pieceOffset 0) pieceLength h a s s s₁ l₀ (piece-length (p 0)) (sym (take-append-drop headLength s)) e₁ in
+    let g₂ = fill-whole (pieceOffset 1) pieceLength (h ++ a) b s s₁ s₂ l₁ (piece-length (p 1)) g₁ e₂ in
+    let g₃ = fill-whole (pieceOffset 2) pieceLength (h ++ a ++ b) c s s₂ s₃ l₂ (piece-length (p 2)) g₂ e₃ in
+    let g₄ = fill-whole (pieceOffset 3) pieceLength (h ++ a ++ b ++ c) d s s₃ s₄ l₃ (piece-length (p 3)) g₃ e₄ in
+    g₄ ∙ regroup h a b c d (drop piecesEnd s) ∙ ap (λ (x : List ℕ). h ++ (x ++ drop piecesEnd s)) (pieces-parts z ps l)
 
 -- the head, and the pieces put after it
-head-length : (e : Entry) → length (take 24 (encodeEntry e)) ≡ 24
+head-length : (e : Entry) → length (take headLength (encodeEntry e)) ≡ headLength
 unfolding encodeEntry bytes
 head-length e = refl
 
-after-head : (e : Entry) → drop 24 (encodeEntry e) ≡ encodePieces (e .pieces)
+after-head : (e : Entry) → drop headLength (encodeEntry e) ≡ encodePieces (e .pieces)
 unfolding encodeEntry bytes
 after-head e = refl
 
-pub entry-put : (e : Entry) (s s₁ s₂ : List ℕ) → s₁ ≡ take 24 (encodeEntry e) ++ drop 24 s → s₂ ≡ take 24 s₁ ++ (encodePieces (e .pieces) ++ drop 56 s₁)
-    → s₂ ≡ encodeEntry e ++ drop 56 s
+pub entry-put : (e : Entry) (s s₁ s₂ : List ℕ) → s₁ ≡ take headLength (encodeEntry e) ++ drop headLength s
+    → s₂ ≡ take headLength s₁ ++ (encodePieces (e .pieces) ++ drop piecesEnd s₁) → s₂ ≡ encodeEntry e ++ drop entryLength s
 entry-put e s s₁ s₂ e₁ e₂ =
-    let h : List ℕ = take 24 (encodeEntry e) in
-    let front : take 24 s₁ ≡ h = ap (take 24) e₁ ∙ take-at h (drop 24 s) 24 (head-length e) in
-    let back : drop 56 s₁ ≡ drop 56 s =
-    sym (drop-drop 32 24 s₁) ∙ ap (drop 32) (ap (drop 24) e₁ ∙ drop-at h (drop 24 s) 24 (head-length e)) ∙ drop-drop 32 24 s in
+    let n : ℕ = headLength in
+    let m : ℕ = pieceLength * mostPieces in
+    let h : List ℕ = take n (encodeEntry e) in
+    let front : take n s₁ ≡ h = ap (take n) e₁ ∙ take-at h (drop n s) n (head-length e) in
+    let back : drop (n + m) s₁ ≡ drop (n + m) s =
+    sym (drop-drop m n s₁) ∙ ap (drop m) (ap (drop n) e₁ ∙ drop-at h (drop n s) n (head-length e)) ∙ drop-drop m n s in
     let whole : h ++ encodePieces (e .pieces) ≡ encodeEntry e =
-    ap (λ (x : List ℕ). h ++ x) (sym (after-head e)) ∙ take-append-drop 24 (encodeEntry e) in
-    e₂ ∙ rw (front, back) (sym (append-assoc h (encodePieces (e .pieces)) (drop 56 s)) ∙ ap (λ (x : List ℕ). x ++ drop 56 s) whole)
+    ap (λ (x : List ℕ). h ++ x) (sym (after-head e)) ∙ take-append-drop n (encodeEntry e) in
+    e₂ ∙ rw (front, back) (sym (append-assoc h (encodePieces (e .pieces)) (drop (n + m) s)) ∙ ap (λ (x : List ℕ). x ++ drop (n + m) s) whole)
 
 -- what passes check 31: an entry as the paper says that fits its bytes
 pub entry-fits : (s : List ℕ) → entryBytes s ≡ true → entryFits (decodeEntry s) ≡ true

@@ -3,6 +3,7 @@ use Prim.Native.Nat.{_<_, _^_}
 use mathlib.Core.Path.{_≡_}
 use mathlib.Core.List.{List, [], _∷_}
 use lib.ListN.{length}
+use Rattle.block.specs.Entry.{mostPieces}
 use Rattle.block.specs.declared.record.Record.{Record}
 use Rattle.block.specs.declared.entry.Piece.{Piece}
 use Rattle.block.specs.declared.entry.Entry.{Entry}
@@ -39,7 +40,7 @@ pub record EntryFits (e : Entry) : Type 0 where
   pub limit : e .limit < 256 ^ 4
   pub timeout : e .timeout < 256 ^ 4
   pub clock : e .clock < 256 ^ 4
-  pub four : length (e .pieces) ≡ 4
+  pub four : length (e .pieces) ≡ mostPieces
   pub pieces : All PieceFits (e .pieces)
 
 -- an event whose numbers fit their bytes

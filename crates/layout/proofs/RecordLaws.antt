@@ -12,14 +12,14 @@ use Rattle.words.proofs.WordLaws.{number-of-bytes}
 use Rattle.block.specs.Record.{bit, freshRecord}
 use Rattle.block.specs.Sound.{sound}
 use Rattle.block.specs.declared.record.Record.{Record}
-use Rattle.layout.specs.Buffer.{byteAt, jobWidth}
-use Rattle.layout.specs.RecordLayout.{flagsByte, encodeRecord, decodeRecord, recordForm, soundBytes}
+use Rattle.layout.specs.Buffer.{recordLength, byteAt, jobWidth}
+use Rattle.layout.specs.RecordLayout.{flagsByte, recordOffset, encodeRecord, decodeRecord, recordForm, soundBytes}
 use Rattle.layout.proofs.Fits.{RecordFits}
 use Rattle.layout.proofs.BitLaws.{bit-le, bit-trip, bit-back, flags-bound, flags-trip, flags-back}
 use Rattle.membership.proofs.Logic.{and-left, and-right, and-join}
 use Rattle.layout.proofs.FieldLaws.{field-back, field-last, byte-back}
 
-pub encode-length : (r : Record) → length (encodeRecord r) ≡ 32
+pub encode-length : (r : Record) → length (encodeRecord r) ≡ recordLength
 unfolding encodeRecord bytes
 encode-length r = refl
 
@@ -39,8 +39,8 @@ decode-encode r h =
 
 -- what the form of the bytes says
 pub record FormBytes (s : List ℕ) : Type 0 where
-  pub flags : byteAt s 1 < 16
-  pub request : byteAt s 2 ≤ 1
+  pub flags : byteAt s (recordOffset .flags) < 16
+  pub request : byteAt s (recordOffset .request) ≤ 1
   pub three : byteAt s 3 ≡ 0
   pub ten : byteAt s 10 ≡ 0
   pub eleven : byteAt s 11 ≡ 0
@@ -48,37 +48,39 @@ pub record FormBytes (s : List ℕ) : Type 0 where
 pub form-bytes : (s : List ℕ) → recordForm s ≡ true → FormBytes s
 unfolding recordForm
 form-bytes s h =
-    let f = ltb (byteAt s 1) 16 in
-    let q = f && leb (byteAt s 2) 1 in
+    let flags = byteAt s (recordOffset .flags) in
+    let request = byteAt s (recordOffset .request) in
+    let f = ltb flags 16 in
+    let q = f && leb request 1 in
     let t = q && eqb (byteAt s 3) 0 in
     let u = t && eqb (byteAt s 10) 0 in
     let hu : u ≡ true = and-left u (eqb (byteAt s 11) 0) h in
     let ht : t ≡ true = and-left t (eqb (byteAt s 10) 0) hu in
     let hq : q ≡ true = and-left q (eqb (byteAt s 3) 0) ht in
     record {
-      flags = ltb-true (byteAt s 1) 16 (and-left f (leb (byteAt s 2) 1) hq);
-      request = leb-true (byteAt s 2) 1 (and-right f (leb (byteAt s 2) 1) hq);
+      flags = ltb-true flags 16 (and-left f (leb request 1) hq);
+      request = leb-true request 1 (and-right f (leb request 1) hq);
       three = eqb-true (byteAt s 3) 0 (and-right q (eqb (byteAt s 3) 0) ht);
       ten = eqb-true (byteAt s 10) 0 (and-right t (eqb (byteAt s 10) 0) hu);
       eleven = eqb-true (byteAt s 11) 0 (and-right u (eqb (byteAt s 11) 0) h);
     }
 
-pub encode-decode : (s : List ℕ) → length s ≡ 32 → Bytes s → recordForm s ≡ true → encodeRecord (decodeRecord s) ≡ s
+pub encode-decode : (s : List ℕ) → length s ≡ recordLength → Bytes s → recordForm s ≡ true → encodeRecord (decodeRecord s) ≡ s
 unfolding encodeRecord decodeRecord
 encode-decode s l b h =
     let f = form-bytes s h in
-    byte-back 0 _ s _ (omega arith) refl
-    (byte-back 1 _ s _ (omega arith) (flags-back (byteAt s 1) (f .flags))
-    (byte-back 2 _ s _ (omega arith) (bit-back (byteAt s 2) (f .request))
+    byte-back (recordOffset .step) _ s _ (omega arith) refl
+    (byte-back (recordOffset .flags) _ s _ (omega arith) (flags-back (byteAt s (recordOffset .flags)) (f .flags))
+    (byte-back (recordOffset .request) _ s _ (omega arith) (bit-back (byteAt s (recordOffset .request)) (f .request))
     (byte-back 3 _ s _ (omega arith) (sym (f .three))
-    (field-back jobWidth 4 s _ b (omega arith)
-    (field-back 2 8 s _ b (omega arith)
+    (field-back jobWidth (recordOffset .job) s _ b (omega arith)
+    (field-back 2 (recordOffset .code) s _ b (omega arith)
     (byte-back 10 _ s _ (omega arith) (sym (f .ten))
     (byte-back 11 _ s _ (omega arith) (sym (f .eleven))
-    (field-back 4 12 s _ b (omega arith)
-    (field-back 4 16 s _ b (omega arith)
-    (field-back 4 20 s _ b (omega arith)
-    (field-last 8 24 s b l)))))))))))
+    (field-back 4 (recordOffset .limit) s _ b (omega arith)
+    (field-back 4 (recordOffset .timeout) s _ b (omega arith)
+    (field-back 4 (recordOffset .last) s _ b (omega arith)
+    (field-last 8 (recordOffset .elapsed) s b l)))))))))))
 
 -- every record is written in form
 pub encode-form : (r : Record) → recordForm (encodeRecord r) ≡ true
@@ -86,11 +88,11 @@ unfolding recordForm encodeRecord bytes
 encode-form r = rw (lt-ltb (flagsByte (r .flags)) 16 (flags-bound (r .flags)), le-leb (bit (r .request)) 1 (bit-le (r .request)))
 
 -- "Fresh is all zero."
-pub encode-fresh : encodeRecord freshRecord ≡ replicate 32 0
+pub encode-fresh : encodeRecord freshRecord ≡ replicate recordLength 0
 unfolding encodeRecord bytes
 encode-fresh = refl
 
-pub decode-fresh : decodeRecord (replicate 32 0) ≡ freshRecord
+pub decode-fresh : decodeRecord (replicate recordLength 0) ≡ freshRecord
 unfolding decodeRecord number
 decode-fresh = refl
 

@@ -3,9 +3,10 @@ use mathlib.Core.Path.{_≡_, refl}
 use lib.ListN.{length}
 use Rattle.words.specs.Word.{bytes}
 use Rattle.block.specs.Call.{Outcome}
+use Rattle.layout.specs.Buffer.{reportLength}
 use Rattle.layout.specs.ReportLayout.{encodeReport, reportedPieces, reportedPasses}
 
-pub report-length : (o : Outcome) → length (encodeReport o) ≡ 12
+pub report-length : (o : Outcome) → length (encodeReport o) ≡ reportLength
 unfolding encodeReport bytes
 report-length o = refl
 

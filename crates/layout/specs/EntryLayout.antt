@@ -1,11 +1,11 @@
--- Document 01, "Frame entry": an entry as 56 bytes, and back.
+-- Document 01, "Frame entry": an entry as bytes, and back.
 use Prim.Native.Nat.{ℕ, _+_, _*_}
 use mathlib.Core.Bool.{Bool, _&&_}
 use mathlib.Core.List.{List, [], _∷_, _++_}
 use lib.Dec.{eqb, ltb}
 use Rattle.words.specs.Word.{bytes, numberAt}
 use Rattle.block.specs.Record.{bit}
-use Rattle.block.specs.Entry.{entryFits}
+use Rattle.block.specs.Entry.{mostPieces, entryFits}
 use Rattle.layout.specs.Buffer.{byteAt, jobWidth}
 use Rattle.layout.specs.RecordLayout.{bitOf}
 use Rattle.block.specs.declared.entry.Inputs.{Inputs}
@@ -13,11 +13,18 @@ use Rattle.block.specs.declared.entry.Piece.{Piece}
 use Rattle.block.specs.declared.entry.Entry.{Entry}
 
 -- "pieces of 8: reply, zero, code (2 bytes), clock after the piece (4 bytes)"
+abbrev pub pieceLength : ℕ
+pieceLength = 8
+
 abbrev pub encodePiece : Piece → List ℕ
 encodePiece p = p .reply ∷ 0 ∷ [] ++ (bytes 2 (p .code) ++ bytes 4 (p .clock))
 
 abbrev pub decodePiece : List ℕ → ℕ → Piece
 decodePiece s at = record { reply = byteAt s at; code = numberAt 2 s (at + 2); clock = numberAt 4 s (at + 4) }
+
+-- its zero byte
+abbrev pub zeroByte : List ℕ → ℕ → Bool
+zeroByte s at = eqb (byteAt s (at + 1)) 0
 
 unfoldable pub encodePieces : List Piece → List ℕ
 encodePieces [] = []
@@ -30,7 +37,34 @@ inputsByte i = bit (i .start) + 2 * bit (i .abort)
 abbrev pub decodeInputs : ℕ → Inputs
 decodeInputs b = record { start = bitOf b 1; abort = bitOf b 2 }
 
+-- where each field begins
+pub record EntryOffsets : Type 0 where
+  pub inputs : ℕ
+  pub count : ℕ
+  pub abortReply : ℕ
+  pub resetReply : ℕ
+  pub abortCode : ℕ
+  pub job : ℕ
+  pub limit : ℕ
+  pub timeout : ℕ
+  pub clock : ℕ
+  pub pieces : ℕ
+
 -- "1 piece count n, 0 to 4; 2 abort reply; 3 reset reply; 4-5 abort error code; 8-11 job ...; 12-15 time limit; 16-19 time-out; 20-23 clock at the call; from 24, four pieces of 8"
+abbrev pub entryOffset : EntryOffsets
+entryOffset =
+    record { inputs = 0; count = 1; abortReply = 2; resetReply = 3; abortCode = 4; job = 8; limit = 12; timeout = 16; clock = 20; pieces = 24 }
+
+-- the bytes before the pieces; piece i, from 0; the end of the four
+abbrev pub headLength : ℕ
+headLength = entryOffset .pieces
+
+abbrev pub pieceOffset : ℕ → ℕ
+pieceOffset i = headLength + pieceLength * i
+
+abbrev pub piecesEnd : ℕ
+piecesEnd = pieceOffset mostPieces
+
 unfoldable pub encodeEntry : Entry → List ℕ
 encodeEntry e =
     (inputsByte (e .inputs) ∷ e .count ∷ e .«abort_reply» ∷ e .«reset_reply» ∷ [])
@@ -45,30 +79,25 @@ encodeEntry e =
 unfoldable pub decodeEntry : List ℕ → Entry
 decodeEntry s =
     record {
-      inputs = decodeInputs (byteAt s 0);
-      count = byteAt s 1;
-      «abort_reply» = byteAt s 2;
-      «reset_reply» = byteAt s 3;
-      «abort_code» = numberAt 2 s 4;
-      job = numberAt jobWidth s 8;
-      limit = numberAt 4 s 12;
-      timeout = numberAt 4 s 16;
-      clock = numberAt 4 s 20;
-      pieces = decodePiece s 24 ∷ decodePiece s 32 ∷ decodePiece s 40 ∷ decodePiece s 48 ∷ [];
+      inputs = decodeInputs (byteAt s (entryOffset .inputs));
+      count = byteAt s (entryOffset .count);
+      «abort_reply» = byteAt s (entryOffset .abortReply);
+      «reset_reply» = byteAt s (entryOffset .resetReply);
+      «abort_code» = numberAt 2 s (entryOffset .abortCode);
+      job = numberAt jobWidth s (entryOffset .job);
+      limit = numberAt 4 s (entryOffset .limit);
+      timeout = numberAt 4 s (entryOffset .timeout);
+      clock = numberAt 4 s (entryOffset .clock);
+      pieces = decodePiece s (pieceOffset 0) ∷ decodePiece s (pieceOffset 1) ∷ decodePiece s (pieceOffset 2) ∷ decodePiece s (pieceOffset 3) ∷ [];
     }
 
 -- "others zero"; the unnamed bytes are zero, before the pieces
 abbrev pub headForm : List ℕ → Bool
-headForm s = ltb (byteAt s 0) 4 && eqb (byteAt s 6) 0 && eqb (byteAt s 7) 0
+headForm s = ltb (byteAt s (entryOffset .inputs)) 4 && eqb (byteAt s 6) 0 && eqb (byteAt s 7) 0
 
 -- and in each piece
 unfoldable pub entryForm : List ℕ → Bool
-entryForm s =
-    headForm s
-    && eqb (byteAt s 25) 0
-    && eqb (byteAt s 33) 0
-    && eqb (byteAt s 41) 0
-    && eqb (byteAt s 49) 0
+entryForm s = headForm s && zeroByte s (pieceOffset 0) && zeroByte s (pieceOffset 1) && zeroByte s (pieceOffset 2) && zeroByte s (pieceOffset 3)
 
 -- check 31 of one entry
 unfoldable pub entryBytes : List ℕ → Bool

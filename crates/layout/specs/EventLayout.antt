@@ -1,4 +1,4 @@
--- Document 01, "Report and journal": journal events as 8 bytes each, and back.
+-- Document 01, "Report and journal": journal events as bytes, and back.
 use Prim.Native.Nat.{ℕ, zero, suc}
 use mathlib.Core.Bool.{cond}
 use mathlib.Core.List.{List, [], _∷_, _++_}
@@ -12,12 +12,26 @@ pub record Posted : Type 0 where
   pub position : ℕ
   pub event : Event
 
+-- where each field begins
+pub record EventOffsets : Type 0 where
+  pub kind : ℕ
+  pub position : ℕ
+  pub code : ℕ
+  pub job : ℕ
+
 -- "kind (1 start, 2 done, 3 failed, 4 aborted, 5 withdrawn), position, code (2; 0 unless failed), job (4)"
+abbrev pub eventOffset : EventOffsets
+eventOffset = record { kind = 0; position = 1; code = 2; job = 4 }
+
 unfoldable pub encodeEvent : ℕ → Event → List ℕ
 encodeEvent position v = (v .kind ∷ position ∷ []) ++ (bytes 2 (v .code) ++ bytes jobWidth (v .job))
 
 unfoldable pub decodeEvent : List ℕ → Posted
-decodeEvent s = record { position = byteAt s 1; event = record { kind = byteAt s 0; code = numberAt 2 s 2; job = numberAt jobWidth s 4 } }
+decodeEvent s =
+    record {
+      position = byteAt s (eventOffset .position);
+      event = record { kind = byteAt s (eventOffset .kind); code = numberAt 2 s (eventOffset .code); job = numberAt jobWidth s (eventOffset .job) };
+    }
 
 -- the events of a block, one after the other
 unfoldable pub encodeEvents : ℕ → List Event → List ℕ

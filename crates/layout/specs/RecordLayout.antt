@@ -1,4 +1,4 @@
--- Document 01, "State record": a record as 32 bytes, and back.
+-- Document 01, "State record": a record as bytes, and back.
 use Prim.Native.Nat.{ℕ, _+_, _*_, _/_, _%_}
 use mathlib.Core.Bool.{Bool, _&&_}
 use mathlib.Core.List.{List, [], _∷_, _++_}
@@ -21,7 +21,22 @@ flagsByte f = bit (f .busy) + 2 * bit (f .done) + 4 * bit (f .error) + 8 * bit (
 abbrev pub flagsOf : ℕ → Flags
 flagsOf b = record { busy = bitOf b 1; done = bitOf b 2; error = bitOf b 4; aborted = bitOf b 8 }
 
+-- where each field begins
+pub record RecordOffsets : Type 0 where
+  pub step : ℕ
+  pub flags : ℕ
+  pub request : ℕ
+  pub job : ℕ
+  pub code : ℕ
+  pub limit : ℕ
+  pub timeout : ℕ
+  pub last : ℕ
+  pub elapsed : ℕ
+
 -- "0 step ...; 1 flags ...; 2 reset request, 0 or 1; 4-7 job; 8-9 error code; 12-15 time limit and 16-19 time-out taken at the start; 20-23 last clock reading; 24-31 elapsed."
+abbrev pub recordOffset : RecordOffsets
+recordOffset = record { step = 0; flags = 1; request = 2; job = 4; code = 8; limit = 12; timeout = 16; last = 20; elapsed = 24 }
+
 unfoldable pub encodeRecord : Record → List ℕ
 encodeRecord r =
     (r .step ∷ flagsByte (r .flags) ∷ bit (r .request) ∷ 0 ∷ [])
@@ -36,20 +51,24 @@ encodeRecord r =
 unfoldable pub decodeRecord : List ℕ → Record
 decodeRecord s =
     record {
-      step = byteAt s 0;
-      flags = flagsOf (byteAt s 1);
-      request = eqb (byteAt s 2) 1;
-      job = numberAt jobWidth s 4;
-      code = numberAt 2 s 8;
-      limit = numberAt 4 s 12;
-      timeout = numberAt 4 s 16;
-      timer = record { last = numberAt 4 s 20; elapsed = numberAt 8 s 24 };
+      step = byteAt s (recordOffset .step);
+      flags = flagsOf (byteAt s (recordOffset .flags));
+      request = eqb (byteAt s (recordOffset .request)) 1;
+      job = numberAt jobWidth s (recordOffset .job);
+      code = numberAt 2 s (recordOffset .code);
+      limit = numberAt 4 s (recordOffset .limit);
+      timeout = numberAt 4 s (recordOffset .timeout);
+      timer = record { last = numberAt 4 s (recordOffset .last); elapsed = numberAt 8 s (recordOffset .elapsed) };
     }
 
 -- "request at most 1, unnamed bytes and bits zero"
 unfoldable pub recordForm : List ℕ → Bool
 recordForm s =
-    ltb (byteAt s 1) 16 && leb (byteAt s 2) 1 && eqb (byteAt s 3) 0 && eqb (byteAt s 10) 0 && eqb (byteAt s 11) 0
+    ltb (byteAt s (recordOffset .flags)) 16
+    && leb (byteAt s (recordOffset .request)) 1
+    && eqb (byteAt s 3) 0
+    && eqb (byteAt s 10) 0
+    && eqb (byteAt s 11) 0
 
 -- check 21 of one record of a kind
 unfoldable pub soundBytes : ℕ → List ℕ → Bool

@@ -1,4 +1,4 @@
--- Document 01, "Report and journal": what a call leaves, as twelve bytes of the report.
+-- Document 01, "Report and journal": what a call leaves, as its bytes of the report.
 use Prim.Native.Nat.{ℕ}
 use mathlib.Core.List.{List, [], _∷_, _++_}
 use Rattle.words.specs.Word.{bytes}

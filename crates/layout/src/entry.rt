@@ -1,16 +1,16 @@
-// A frame entry as 56 bytes.
+// A frame entry as bytes, and back.
 use block::entry::Entry;
 use block::entry::Inputs;
+use block::entry::PIECES;
 use block::entry::Piece;
 ghost use mathlib.Core.Path.{_≡_};
 ghost use mathlib.Core.Bool.{_&&_};
 ghost use mathlib.Core.List.{_++_};
 ghost use Prim.Native.Nat.{_+_, _≤_};
-ghost use lib.Dec.{eqb};
 ghost use lib.ListN.{length, take, drop};
 ghost use Rattle.block.specs.Entry.{pieceForm, pieceFits, headFits};
-ghost use Rattle.layout.specs.Buffer.{byteAt, put};
-ghost use Rattle.layout.specs.EntryLayout.{inputsByte, decodeInputs, encodePiece, decodePiece, encodePieces, encodeEntry, decodeEntry, headForm, entryBytes};
+ghost use Rattle.layout.specs.Buffer.{entryLength, put};
+ghost use Rattle.layout.specs.EntryLayout.{pieceLength, headLength, piecesEnd, inputsByte, decodeInputs, encodePiece, decodePiece, zeroByte, encodePieces, encodeEntry, decodeEntry, headForm, entryBytes};
 
 // Bytes of a frame entry, and of each of its four pieces, which stand after its head.
 pub const ENTRY_BYTES: usize = 56;
@@ -18,6 +18,36 @@ pub const ENTRY_BYTES: usize = 56;
 const PIECE_BYTES: usize = 8;
 
 const HEAD_BYTES: usize = 24;
+
+// The greatest reply, as a number of two bytes.
+const MOST_REPLY: u16 = Entry::ERROR as u16;
+
+// Where its fields begin, and its pieces.
+pub const INPUTS_OFFSET: usize = 0;
+
+const COUNT_OFFSET: usize = 1;
+
+const ABORT_REPLY_OFFSET: usize = 2;
+
+const RESET_REPLY_OFFSET: usize = 3;
+
+const ABORT_CODE_OFFSET: usize = 4;
+
+const JOB_OFFSET: usize = 8;
+
+const LIMIT_OFFSET: usize = 12;
+
+const TIME_OUT_OFFSET: usize = 16;
+
+const CLOCK_OFFSET: usize = 20;
+
+const FIRST_PIECE: usize = HEAD_BYTES;
+
+const SECOND_PIECE: usize = FIRST_PIECE + PIECE_BYTES;
+
+const THIRD_PIECE: usize = SECOND_PIECE + PIECE_BYTES;
+
+const FOURTH_PIECE: usize = THIRD_PIECE + PIECE_BYTES;
 
 pub fn decode_inputs(b: u8) -> Inputs
     ensures { λ i. ⌜ i ≡ decodeInputs b ⌝ }
@@ -29,7 +59,7 @@ pub fn decode_inputs(b: u8) -> Inputs
 }
 
 fn decode_piece(s: &[u8], at: usize) -> Piece
-    requires { ⌜ at + 8 ≤ length (now s) ⌝ }
+    requires { ⌜ at + pieceLength ≤ length (now s) ⌝ }
     ensures { λ p. ⌜ p ≡ decodePiece (now (s .entry)) at ⌝ }
 {
     Piece {
@@ -39,53 +69,56 @@ fn decode_piece(s: &[u8], at: usize) -> Piece
     }
 }
 
-// The entry in 56 bytes.
+// The entry in its bytes.
 pub fn decode_entry(s: &[u8]) -> Entry
-    requires { ⌜ 56 ≤ length (now s) ⌝ }
+    requires { ⌜ entryLength ≤ length (now s) ⌝ }
     ensures { λ e. ⌜ e ≡ decodeEntry (now (s .entry)) ⌝ }
 {
     let pieces = [
-        decode_piece(s, 24),
-        decode_piece(s, 32),
-        decode_piece(s, 40),
-        decode_piece(s, 48),
+        decode_piece(s, FIRST_PIECE),
+        decode_piece(s, SECOND_PIECE),
+        decode_piece(s, THIRD_PIECE),
+        decode_piece(s, FOURTH_PIECE),
     ];
     Entry {
-        inputs: decode_inputs(s[0]),
-        count: s[1],
-        abort_reply: s[2],
-        reset_reply: s[3],
-        abort_code: words::u16_at(s, 4),
-        job: words::u32_at(s, 8),
-        limit: words::u32_at(s, 12),
-        timeout: words::u32_at(s, 16),
-        clock: words::u32_at(s, 20),
+        inputs: decode_inputs(s[INPUTS_OFFSET]),
+        count: s[COUNT_OFFSET],
+        abort_reply: s[ABORT_REPLY_OFFSET],
+        reset_reply: s[RESET_REPLY_OFFSET],
+        abort_code: words::u16_at(s, ABORT_CODE_OFFSET),
+        job: words::u32_at(s, JOB_OFFSET),
+        limit: words::u32_at(s, LIMIT_OFFSET),
+        timeout: words::u32_at(s, TIME_OUT_OFFSET),
+        clock: words::u32_at(s, CLOCK_OFFSET),
         pieces,
     }
 }
 
 // What stands before the pieces: the unnamed bytes and bits, then the fields.
 fn head_fits(s: &[u8]) -> bool
-    requires { ⌜ 56 ≤ length (now s) ⌝ }
+    requires { ⌜ entryLength ≤ length (now s) ⌝ }
     ensures { λ r. ⌜ r ≡ headForm (now (s .entry)) && headFits (decodeEntry (now (s .entry))) ⌝ }
 {
-    let form = (s[0] < 4) & (words::u16_at(s, 6) == 0);
-    let replies = (s[1] <= 4) & (s[2] <= 2) & (s[3] <= 1);
-    form & (replies & block::entry::code_fits(s[2], words::u16_at(s, 4)))
+    let form = (s[INPUTS_OFFSET] < 4) & (words::u16_at(s, 6) == 0);
+    let replies = (s[COUNT_OFFSET] <= Entry::MOST_PIECES)
+        & (s[ABORT_REPLY_OFFSET] <= Entry::ERROR)
+        & (s[RESET_REPLY_OFFSET] <= Entry::COMPLETE);
+    let code = words::u16_at(s, ABORT_CODE_OFFSET);
+    form & (replies & block::entry::code_fits(s[ABORT_REPLY_OFFSET], code))
 }
 
 // A piece of the count: its reply and the zero byte after it, then its code.
 fn piece_form(s: &[u8], at: usize) -> bool
-    requires { ⌜ at + 8 ≤ length (now s) ⌝ }
-    ensures { λ r. ⌜ r ≡ eqb (byteAt (now (s .entry)) (at + 1)) 0 && pieceForm (decodePiece (now (s .entry)) at) ⌝ }
+    requires { ⌜ at + pieceLength ≤ length (now s) ⌝ }
+    ensures { λ r. ⌜ r ≡ zeroByte (now (s .entry)) at && pieceForm (decodePiece (now (s .entry)) at) ⌝ }
 {
-    (words::u16_at(s, at) <= 2) & block::entry::code_fits(s[at], words::u16_at(s, at + 2))
+    (words::u16_at(s, at) <= MOST_REPLY) & block::entry::code_fits(s[at], words::u16_at(s, at + 2))
 }
 
 // Piece `i` of an entry that has `count` of them, at its place; a piece past the count is zero.
 fn piece_fits(s: &[u8], at: usize, i: u8, count: u8) -> bool
-    requires { ⌜ at + 8 ≤ length (now s) ⌝ }
-    ensures { λ r. ⌜ r ≡ eqb (byteAt (now (s .entry)) (at + 1)) 0 && pieceFits count i (decodePiece (now (s .entry)) at) ⌝ }
+    requires { ⌜ at + pieceLength ≤ length (now s) ⌝ }
+    ensures { λ r. ⌜ r ≡ zeroByte (now (s .entry)) at && pieceFits count i (decodePiece (now (s .entry)) at) ⌝ }
 {
     if i < count {
         return piece_form(s, at);
@@ -95,23 +128,23 @@ fn piece_fits(s: &[u8], at: usize, i: u8, count: u8) -> bool
 
 // Check 31 of one entry: its head, then each piece.
 pub fn entry_bytes(s: &[u8]) -> bool
-    requires { ⌜ 56 ≤ length (now s) ⌝ }
+    requires { ⌜ entryLength ≤ length (now s) ⌝ }
     ensures { λ r. ⌜ r ≡ entryBytes (now (s .entry)) ⌝ }
 {
     if !head_fits(s) {
         return false;
     }
-    let count = s[1];
-    if !piece_fits(s, 24, 0, count) {
+    let count = s[COUNT_OFFSET];
+    if !piece_fits(s, FIRST_PIECE, 0, count) {
         return false;
     }
-    if !piece_fits(s, 32, 1, count) {
+    if !piece_fits(s, SECOND_PIECE, 1, count) {
         return false;
     }
-    if !piece_fits(s, 40, 2, count) {
+    if !piece_fits(s, THIRD_PIECE, 2, count) {
         return false;
     }
-    piece_fits(s, 48, 3, count)
+    piece_fits(s, FOURTH_PIECE, 3, count)
 }
 
 fn inputs_byte(i: Inputs) -> u8
@@ -122,7 +155,7 @@ fn inputs_byte(i: Inputs) -> u8
 
 // What stands before the pieces.
 fn encode_head(e: Entry) -> [u8; HEAD_BYTES]
-    ensures { λ b. ⌜ b ≡ take 24 (encodeEntry e) ⌝ }
+    ensures { λ b. ⌜ b ≡ take headLength (encodeEntry e) ⌝ }
 {
     let code = words::u16_bytes(e.abort_code);
     let job = words::u32_bytes(e.job);
@@ -175,28 +208,28 @@ fn encode_piece(p: Piece) -> [u8; PIECE_BYTES]
 }
 
 fn put_piece(s: &mut [u8], at: usize, p: Piece)
-    requires { ⌜ at + 8 ≤ length (now s) ⌝ }
+    requires { ⌜ at + pieceLength ≤ length (now s) ⌝ }
     ensures { λ _. ⌜ now (s .exit) ≡ put at (encodePiece p) (now (s .entry)) ⌝ }
 {
     let b = encode_piece(p);
     bytes::copy(&b, &mut s[at..]);
 }
 
-// The four pieces are written from place 24 on.
-fn put_pieces(s: &mut [u8], ps: [Piece; 4])
-    requires { ⌜ 56 ≤ length (now s) ⌝ }
-    ensures { λ _. ⌜ now (s .exit) ≡ take 24 (now (s .entry)) ++ (encodePieces ps ++ drop 56 (now (s .entry))) ⌝ }
+// The four pieces are written after the head.
+fn put_pieces(s: &mut [u8], ps: [Piece; PIECES])
+    requires { ⌜ piecesEnd ≤ length (now s) ⌝ }
+    ensures { λ _. ⌜ now (s .exit) ≡ take headLength (now (s .entry)) ++ (encodePieces ps ++ drop piecesEnd (now (s .entry))) ⌝ }
 {
-    put_piece(s, 24, ps[0]);
-    put_piece(s, 32, ps[1]);
-    put_piece(s, 40, ps[2]);
-    put_piece(s, 48, ps[3]);
+    put_piece(s, FIRST_PIECE, ps[0]);
+    put_piece(s, SECOND_PIECE, ps[1]);
+    put_piece(s, THIRD_PIECE, ps[2]);
+    put_piece(s, FOURTH_PIECE, ps[3]);
 }
 
-// The first 56 bytes of what is lent become the entry.
+// The first bytes of what is lent become the entry.
 pub fn write_entry(out: &mut [u8], e: Entry)
-    requires { ⌜ 56 ≤ length (now out) ⌝ }
-    ensures { λ _. ⌜ now (out .exit) ≡ encodeEntry e ++ drop 56 (now (out .entry)) ⌝ }
+    requires { ⌜ entryLength ≤ length (now out) ⌝ }
+    ensures { λ _. ⌜ now (out .exit) ≡ encodeEntry e ++ drop entryLength (now (out .entry)) ⌝ }
 {
     let head = encode_head(e);
     bytes::copy(&head, out);
@@ -204,7 +237,7 @@ pub fn write_entry(out: &mut [u8], e: Entry)
     put_pieces(out, pieces);
 }
 
-// The 56 bytes of an entry.
+// The bytes of an entry.
 pub fn encode_entry(e: Entry) -> [u8; ENTRY_BYTES]
     ensures { λ b. ⌜ b ≡ encodeEntry e ⌝ }
 {

@@ -1,9 +1,9 @@
-// A journal event as 8 bytes.
+// A journal event as bytes.
 use block::event::Event;
 ghost use mathlib.Core.Path.{_≡_};
 ghost use Prim.Native.Nat.{_+_, _≤_};
 ghost use lib.ListN.{length};
-ghost use Rattle.layout.specs.Buffer.{put};
+ghost use Rattle.layout.specs.Buffer.{eventLength, put};
 ghost use Rattle.layout.specs.EventLayout.{encodeEvent};
 
 // Bytes of a journal event.
@@ -28,7 +28,7 @@ pub fn encode_event(position: u8, v: Event) -> [u8; EVENT_BYTES]
 
 // The event is written from the place `at` on.
 pub fn put_event(journal: &mut [u8], at: usize, position: u8, v: Event)
-    requires { ⌜ at + 8 ≤ length (now journal) ⌝ }
+    requires { ⌜ at + eventLength ≤ length (now journal) ⌝ }
     ensures { λ _. ⌜ now (journal .exit) ≡ put at (encodeEvent position v) (now (journal .entry)) ⌝ }
 {
     let b = encode_event(position, v);

@@ -1,4 +1,4 @@
-// A state record as 32 bytes.
+// A state record as bytes, and back.
 use block::record::Flags;
 use block::record::Record;
 use clock::Timer;
@@ -9,11 +9,29 @@ ghost use lib.Dec.{eqb};
 ghost use lib.ListN.{length};
 ghost use Rattle.words.specs.Word.{numberAt};
 ghost use Rattle.block.specs.Record.{bit};
-ghost use Rattle.layout.specs.Buffer.{put};
+ghost use Rattle.layout.specs.Buffer.{recordLength, put};
 ghost use Rattle.layout.specs.RecordLayout.{flagsByte, flagsOf, encodeRecord, decodeRecord, recordForm, soundBytes};
 
-// Bytes of a state record.
+// Bytes of a state record, and where its fields begin.
 pub const RECORD_BYTES: usize = 32;
+
+pub const STEP_OFFSET: usize = 0;
+
+pub const FLAGS_OFFSET: usize = 1;
+
+const REQUEST_OFFSET: usize = 2;
+
+const JOB_OFFSET: usize = 4;
+
+const CODE_OFFSET: usize = 8;
+
+const LIMIT_OFFSET: usize = 12;
+
+const TIME_OUT_OFFSET: usize = 16;
+
+const LAST_OFFSET: usize = 20;
+
+const ELAPSED_OFFSET: usize = 24;
 
 pub fn bit(b: bool) -> u8
     ensures { λ r. ⌜ r ≡ bit b ⌝ }
@@ -39,27 +57,27 @@ pub fn flags_of(b: u8) -> Flags
     }
 }
 
-// The record in 32 bytes.
+// The record in its bytes.
 pub fn decode_record(s: &[u8]) -> Record
-    requires { ⌜ 32 ≤ length (now s) ⌝ }
+    requires { ⌜ recordLength ≤ length (now s) ⌝ }
     ensures { λ r. ⌜ r ≡ decodeRecord (now (s .entry)) ⌝ }
 {
     Record {
-        step: s[0],
-        flags: flags_of(s[1]),
-        request: s[2] == 1,
-        job: words::u32_at(s, 4),
-        code: words::u16_at(s, 8),
-        limit: words::u32_at(s, 12),
-        timeout: words::u32_at(s, 16),
+        step: s[STEP_OFFSET],
+        flags: flags_of(s[FLAGS_OFFSET]),
+        request: s[REQUEST_OFFSET] == 1,
+        job: words::u32_at(s, JOB_OFFSET),
+        code: words::u16_at(s, CODE_OFFSET),
+        limit: words::u32_at(s, LIMIT_OFFSET),
+        timeout: words::u32_at(s, TIME_OUT_OFFSET),
         timer: Timer {
-            last: words::u32_at(s, 20),
-            elapsed: words::u64_at(s, 24),
+            last: words::u32_at(s, LAST_OFFSET),
+            elapsed: words::u64_at(s, ELAPSED_OFFSET),
         },
     }
 }
 
-// The 32 bytes of a record.
+// The bytes of a record.
 pub fn encode_record(r: Record) -> [u8; RECORD_BYTES]
     ensures { λ b. ⌜ b ≡ encodeRecord r ⌝ }
 {
@@ -107,7 +125,7 @@ pub fn encode_record(r: Record) -> [u8; RECORD_BYTES]
 
 // The record is written from the place `at` on.
 pub fn put_record(s: &mut [u8], at: usize, r: Record)
-    requires { ⌜ at + 32 ≤ length (now s) ⌝ }
+    requires { ⌜ at + recordLength ≤ length (now s) ⌝ }
     ensures { λ _. ⌜ now (s .exit) ≡ put at (encodeRecord r) (now (s .entry)) ⌝ }
 {
     let b = encode_record(r);
@@ -116,16 +134,16 @@ pub fn put_record(s: &mut [u8], at: usize, r: Record)
 
 // The unnamed bytes and bits, and the request.
 fn record_form(s: &[u8]) -> bool
-    requires { ⌜ 32 ≤ length (now s) ⌝ }
+    requires { ⌜ recordLength ≤ length (now s) ⌝ }
     ensures { λ r. ⌜ r ≡ recordForm (now (s .entry)) ⌝ }
 {
-    (s[1] < 16) & (words::u16_at(s, 2) <= 1) & (words::u16_at(s, 10) == 0)
+    (s[FLAGS_OFFSET] < 16) & (words::u16_at(s, REQUEST_OFFSET) <= 1) & (words::u16_at(s, 10) == 0)
 }
 
-// All 32 bytes are zero.
+// All the bytes are zero, read eight at a time.
 fn record_zero(s: &[u8]) -> bool
-    requires { ⌜ 32 ≤ length (now s) ⌝ }
-    ensures { λ r. ⌜ r ≡ eqb (numberAt 8 (now (s .entry)) 0) 0 && eqb (numberAt 8 (now (s .entry)) 8) 0 && eqb (numberAt 8 (now (s .entry)) 16) 0 && eqb (numberAt 8 (now (s .entry)) 24) 0 ⌝ }
+    requires { ⌜ recordLength ≤ length (now s) ⌝ }
+    ensures { λ r. ⌜ r ≡ eqb (numberAt recordLength (now (s .entry)) 0) 0 ⌝ }
 {
     (words::u64_at(s, 0) == 0)
         & (words::u64_at(s, 8) == 0)
@@ -135,10 +153,10 @@ fn record_zero(s: &[u8]) -> bool
 
 // Check 21 of one record: Dormant is all zero; else the form, then the fields.
 pub fn sound_bytes(kind: u8, s: &[u8]) -> bool
-    requires { ⌜ 32 ≤ length (now s) ⌝ }
+    requires { ⌜ recordLength ≤ length (now s) ⌝ }
     ensures { λ r. ⌜ r ≡ soundBytes kind (now (s .entry)) ⌝ }
 {
-    if s[0] == Record::DORMANT {
+    if s[STEP_OFFSET] == Record::DORMANT {
         return record_zero(s);
     }
     if !record_form(s) {

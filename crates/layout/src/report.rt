@@ -1,10 +1,11 @@
-// A report entry as 12 bytes.
+// A report entry as bytes.
 use block::call::CallResult;
 ghost use mathlib.Core.Path.{_≡_};
 ghost use mathlib.Core.List.{_++_};
 ghost use Prim.Native.Nat.{_≤_};
 ghost use lib.ListN.{length, drop};
 ghost use Rattle.block.specs.CallResult.{outcomeOf};
+ghost use Rattle.layout.specs.Buffer.{reportLength};
 ghost use Rattle.layout.specs.ReportLayout.{encodeReport};
 
 // Bytes of a report entry.
@@ -32,10 +33,10 @@ pub fn encode_report(a: CallResult) -> [u8; REPORT_BYTES]
     ]
 }
 
-// The first twelve bytes of what is lent become the entry.
+// The first bytes of what is lent become the entry.
 pub fn write_report(out: &mut [u8], a: CallResult)
-    requires { ⌜ 12 ≤ length (now out) ⌝ }
-    ensures { λ _. ⌜ now (out .exit) ≡ encodeReport (outcomeOf a) ++ drop 12 (now (out .entry)) ⌝ }
+    requires { ⌜ reportLength ≤ length (now out) ⌝ }
+    ensures { λ _. ⌜ now (out .exit) ≡ encodeReport (outcomeOf a) ++ drop reportLength (now (out .entry)) ⌝ }
 {
     let b = encode_report(a);
     bytes::copy(&b, out);

@@ -1,2 +1,3 @@
 pub mod Logic
 pub mod MembershipLaws
+pub mod AmongLaws

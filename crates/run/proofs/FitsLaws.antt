@@ -2,7 +2,7 @@
 -- which writes a call's record and events and reads them back.
 use Prim.Native.Nat.{ℕ, zero, suc, _<_, _^_}
 use native.Mathlib.Omega.{arith}
-use mathlib.Core.Bool.{Bool, true, false, cond, not, _&&_}
+use mathlib.Core.Bool.{Bool, true, false, cond, not, _&&_, _||_}
 use mathlib.Core.List.{List, _++_}
 use native.Mathlib.Nat.{lt-of-le-of-lt}
 use lib.Dec.{eqb, lit<}
@@ -189,9 +189,10 @@ module _ (k : ℕ) (i : Inputs) (e : Entry) (fe : EntryFits e) where
   pass-fits r h =
       either PassFits (eqb (r .step) Dormant) (dormant-fits r h)
       (either PassFits (eqb (r .step) Executing) (executing-fits r h)
+      (either PassFits (eqb (r .step) Done || eqb (r .step) Error || eqb (r .step) Aborted) (ended-fits r h)
       (either PassFits (eqb (r .step) Aborting) (aborting-fits r h)
       (either PassFits (eqb (r .step) Resetting) (resetting-fits r h)
-      (ended-fits r h))))
+      (stops 0 r h)))))
 
   within-fits : (n : ℕ) (r : Record) → RecordFits r → OutcomeFits (callWithin n k i e r)
   unfolding callWithin

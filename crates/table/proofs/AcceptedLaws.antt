@@ -13,7 +13,7 @@ use lib.Seq.{getD-take, length-take-le}
 use Rattle.kind.specs.Kind.{isKind, hasAbort}
 use Rattle.membership.specs.Membership.{among}
 use Rattle.table.specs.Place.{andThen}
-use Rattle.table.specs.Image.{slotCount, kindOf, wireSlot, wireCode, startWire, abortWire, tagOf, HasSlot}
+use Rattle.image.specs.Image.{mostSlots, slotCount, kindOf, wireSlot, wireCode, startWire, abortWire, tagOf, HasSlot}
 use Rattle.table.specs.Header.{headerCheck, Headed}
 use Rattle.table.specs.Tag.{tagForm, sameBytes}
 use Rattle.table.specs.Walk.{walked}
@@ -22,25 +22,21 @@ use Rattle.table.specs.Record.{kindOk, tagAmong, noWire, wireOk, startOk
 use Rattle.table.specs.Spare.{sparesCheck}
 use Rattle.table.specs.Check.{verdictOf, checkOf}
 use Rattle.table.specs.Blocks.{fromFrame, wireOf, blockIn, blocksOf, blockAt}
+use Rattle.table.specs.Accepted.{RecordOk, WireOf}
 use Rattle.table.specs.declared.place.Place.the-variants.{Slot}
+use Rattle.table.specs.declared.place.Verdict.{Verdict}
 use Rattle.table.specs.declared.place.Verdict.the-variants.{Passed}
 use Rattle.table.specs.declared.check.Checked.the-variants.{Blocks}
-use Rattle.table.specs.declared.blocks.Wire.{Wire}
 use Rattle.membership.proofs.Logic.{by-test, not-both, and-left, and-right}
 use Rattle.table.proofs.Logic.{not-failed, group-passes, rest-passes}
-use Rattle.table.proofs.AmongLaws.{position-bound, position-some, all-at, all-among}
+use Rattle.membership.proofs.AmongLaws.{all-at, all-among}
+use Rattle.table.proofs.PositionLaws.{position-bound, position-some}
 use Rattle.table.proofs.ChainLaws.{chain-in, chain-few, chain-distinct, has-slot}
 use Rattle.table.proofs.TagLaws.{same-self}
 use Rattle.table.proofs.CheckLaws.{headed-by, passed-by, blocks-by}
 use Rattle.table.proofs.BlockLaws.{blocks-length, block-is}
 
 -- a record that passed its checks
-pub record RecordOk (image chain : List ℕ) (slot : ℕ) : Type 0 where
-  pub kind : kindOk image slot ≡ true
-  pub tag : tagForm (tagOf image slot) ≡ true
-  pub start : startOk image chain slot ≡ true
-  pub abort : abortOk image chain slot ≡ true
-
 passes-record : (image chain : List ℕ) (repeated : Bool) (slot : ℕ) → recordCheck image chain repeated slot ≡ Passed → RecordOk image chain slot × (repeated ≡ false)
 unfolding recordCheck
 passes-record image chain repeated slot e =
@@ -67,7 +63,7 @@ each-record image chain earlier (slot ∷ rest) e (suc i) l =
     rw (append-assoc earlier (slot ∷ []) (take i rest)) at (each-record image chain (earlier ++ (slot ∷ [])) rest h i (omega arith))
 
 -- a tag that is not among those of some slots is that of none
-none-among : (image tag slots : List ℕ) → tagAmong image tag slots ≡ false → (j : ℕ) → j < length slots → tagOf image (getD slots j 0) ≡ tag → ⊥
+pub none-among : (image tag slots : List ℕ) → tagAmong image tag slots ≡ false → (j : ℕ) → j < length slots → tagOf image (getD slots j 0) ≡ tag → ⊥
 unfolding tagAmong
 none-among image tag [] e j l q = omega arith
 none-among image tag (k ∷ slots) e zero l q =
@@ -77,13 +73,8 @@ none-among image tag (k ∷ slots) e (suc j) l q =
     by-test (sameBytes (tagOf image k) tag) (λ s. not-both true refl (simp s at e))
     (λ s. none-among image tag slots (simp s at e) j (omega arith) q)
 
--- a wire of a table of n blocks: a flag 0 to 3 of a block, or the frame's bit
-pub record WireOf (n : ℕ) (w : Wire) : Type 0 where
-  pub within : w .position ≤ n
-  pub flag : w .flag < 4
-  pub frame : w .position ≡ 0 → w ≡ fromFrame
-
-wire-of : (image : List ℕ) (n slot code : ℕ) → length (chainOf image) ≡ n → wireOk (chainOf image) slot code ≡ true → WireOf n (wireOf (chainOf image) slot code)
+-- a wire that passed is one of a table of as many blocks as the chain has
+pub wire-of : (image : List ℕ) (n slot code : ℕ) → length (chainOf image) ≡ n → wireOk (chainOf image) slot code ≡ true → WireOf n (wireOf (chainOf image) slot code)
 wire-of image n slot code e h =
     by-test (eqb slot 0)
     (λ z. simp z (record { within = omega arith; flag = omega arith; frame = λ q. refl }))
@@ -101,7 +92,7 @@ source-in image slot code h =
     (λ z. all-among (slotCount image) (chainOf image) slot (chain-in image) (and-left _ _ (simp z at h)) .1)
 
 -- an abort wire is a wire, also where it has to be none
-abort-wire-ok : (image chain : List ℕ) (slot : ℕ) → abortOk image chain slot ≡ true → wireOk chain (wireSlot image slot abortWire) (wireCode image slot abortWire) ≡ true
+pub abort-wire-ok : (image chain : List ℕ) (slot : ℕ) → abortOk image chain slot ≡ true → wireOk chain (wireSlot image slot abortWire) (wireCode image slot abortWire) ≡ true
 abort-wire-ok image chain slot h =
     by-test (hasAbort (kindOf image slot)) (λ a. simp a at h)
     (λ a. let g : noWire (wireSlot image slot abortWire) (wireCode image slot abortWire) ≡ true = simp a at h in
@@ -113,20 +104,35 @@ module _ (image : List ℕ) (n : ℕ) (ok : checkOf image ≡ Blocks n) where
   unfolding checkOf
   passed = passed-by (verdictOf image) (length (chainOf image)) n ok
 
-  header-passed : headerCheck image ≡ Passed
-  unfolding verdictOf
-  header-passed = group-passes (headerCheck image) (andThen (chainVerdict (walked image)) (andThen (recordsCheck image) (sparesCheck image))) passed
+  abbrev from-records : Verdict
+  from-records = andThen (recordsCheck image) (sparesCheck image)
 
-  below-header : andThen (chainVerdict (walked image)) (andThen (recordsCheck image) (sparesCheck image)) ≡ Passed
-  unfolding verdictOf
-  below-header = rest-passes (headerCheck image) (andThen (chainVerdict (walked image)) (andThen (recordsCheck image) (sparesCheck image))) passed
+  abbrev from-chain : Verdict
+  from-chain = andThen (chainVerdict (walked image)) from-records
 
-  records-passed : recordsCheck image ≡ Passed
-  records-passed = group-passes (recordsCheck image) (sparesCheck image)
-      (rest-passes (chainVerdict (walked image)) (andThen (recordsCheck image) (sparesCheck image)) below-header)
+  chain-on : from-chain ≡ Passed
+  unfolding verdictOf
+  chain-on = rest-passes (headerCheck image) from-chain passed
+
+  records-on : from-records ≡ Passed
+  records-on = rest-passes (chainVerdict (walked image)) from-records chain-on
+
+  -- each group of checks passed
+  pub accepted-header : headerCheck image ≡ Passed
+  unfolding verdictOf
+  accepted-header = group-passes (headerCheck image) from-chain passed
+
+  pub accepted-chain : chainVerdict (walked image) ≡ Passed
+  accepted-chain = group-passes (chainVerdict (walked image)) from-records chain-on
+
+  pub accepted-records : recordsCheck image ≡ Passed
+  accepted-records = group-passes (recordsCheck image) (sparesCheck image) records-on
+
+  pub accepted-spares : sparesCheck image ≡ Passed
+  accepted-spares = rest-passes (recordsCheck image) (sparesCheck image) records-on
 
   pub accepted-headed : Headed image
-  accepted-headed = headed-by image header-passed
+  accepted-headed = headed-by image accepted-header
 
   -- the number of blocks
   pub accepted-count : length (chainOf image) ≡ n
@@ -136,7 +142,7 @@ module _ (image : List ℕ) (n : ℕ) (ok : checkOf image ≡ Blocks n) where
   pub accepted-blocks : length (blocksOf image) ≡ n
   accepted-blocks = blocks-length image (chainOf image) (chainOf image) ∙ accepted-count
 
-  pub accepted-few : n ≤ 64
+  pub accepted-few : n ≤ mostSlots
   accepted-few = omega (arith, accepted-count, chain-few image, accepted-headed .few)
 
   module _ (i : ℕ) (l : i < n) where
@@ -153,7 +159,7 @@ module _ (image : List ℕ) (n : ℕ) (ok : checkOf image ≡ Blocks n) where
     both : RecordOk image (chainOf image) (getD (chainOf image) i 0) × (tagAmong image (tagOf image (getD (chainOf image) i 0)) (take i (chainOf image)) ≡ false)
     unfolding recordsCheck
     both = passes-record image (chainOf image) (tagAmong image (tagOf image (getD (chainOf image) i 0)) (take i (chainOf image))) (getD (chainOf image) i 0)
-        (each-record image (chainOf image) [] (chainOf image) records-passed i in-chain)
+        (each-record image (chainOf image) [] (chainOf image) accepted-records i in-chain)
 
     pub accepted-record : RecordOk image (chainOf image) (getD (chainOf image) i 0)
     accepted-record = both .0
@@ -185,6 +191,15 @@ module _ (image : List ℕ) (n : ℕ) (ok : checkOf image ≡ Blocks n) where
         let slot = getD (chainOf image) i 0 in
         rw accepted-block (wire-of image n (wireSlot image slot abortWire) (wireCode image slot abortWire) accepted-count (abort-wire-ok image (chainOf image) slot (accepted-record .abort)))
 
+    -- "Kinds 1-4 and 9-14 have no abort wire"
+    pub accepted-no-abort : hasAbort (blockAt (blocksOf image) i .kind) ≡ false → blockAt (blocksOf image) i .abort ≡ fromFrame
+    unfolding blockIn
+    accepted-no-abort e =
+        let slot = getD (chainOf image) i 0 in
+        let a : hasAbort (kindOf image slot) ≡ false = rw accepted-block at e in
+        let z : eqb (wireSlot image slot abortWire) 0 ≡ true = and-left _ (eqb (wireCode image slot abortWire) 0) (simp a at (accepted-record .abort)) in
+        rw accepted-block (simp z)
+
     -- the slot that a wire names: 0, or of 1 to N
     pub accepted-source : (wire : ℕ) → (wire ≡ startWire) ⊎ (wire ≡ abortWire) → wireSlot image (getD (chainOf image) i 0) wire ≤ slotCount image
     accepted-source wire (inl e) =
@@ -210,10 +225,12 @@ module _ (image : List ℕ) (n : ℕ) (ok : checkOf image ≡ Blocks n) where
       (omega (arith, length-take-le i (chainOf image) (omega (arith, in-chain i k))))
       (rw (getD-take i (chainOf image) j 0 l) e)
 
+  pub accepted-slot-tags : (i j : ℕ) → i < n → j < n → tagOf image (getD (chainOf image) i 0) ≡ tagOf image (getD (chainOf image) j 0) → i ≡ j
+  accepted-slot-tags i j k l e =
+      by-test (ltb i j) (λ a. absurd (earlier-tag j i l (ltb-true i j a) e))
+      (λ a. by-test (ltb j i) (λ b. absurd (earlier-tag i j k (ltb-true j i b) (sym e)))
+      (λ b. omega (arith, ltb-false i j a, ltb-false j i b)))
+
   pub accepted-tags : (i j : ℕ) → i < n → j < n → blockAt (blocksOf image) i .tag ≡ blockAt (blocksOf image) j .tag → i ≡ j
   unfolding blockIn
-  accepted-tags i j k l e =
-      let q : tagOf image (getD (chainOf image) i 0) ≡ tagOf image (getD (chainOf image) j 0) = rw (accepted-block i k, accepted-block j l) at e in
-      by-test (ltb i j) (λ a. absurd (earlier-tag j i l (ltb-true i j a) q))
-      (λ a. by-test (ltb j i) (λ b. absurd (earlier-tag i j k (ltb-true j i b) (sym q)))
-      (λ b. omega (arith, ltb-false i j a, ltb-false j i b)))
+  accepted-tags i j k l e = accepted-slot-tags i j k l (rw (accepted-block i k, accepted-block j l) at e)

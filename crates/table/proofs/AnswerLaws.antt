@@ -1,16 +1,16 @@
 -- The bounds of the table's refusals: a number of 1 to 11, and a place of at most N. For LookupLaws, for the checks of the
 -- layers above, and for the packing of answers.
-use Prim.Native.Nat.{ℕ, zero, suc, _+_, _*_, _≤_}
+use Prim.Native.Nat.{ℕ, zero, suc, _+_, _≤_}
 use mathlib.Core.Path.{_≡_, ap}
 use mathlib.Core.List.{List, [], _∷_, _++_}
 use mathlib.Core.Bool.{Bool, true, false, not, _&&_}
 use native.Mathlib.Omega.{arith}
 use borrow.Author.Tests.{ltb-false}
 use lib.Dec.{leb, ltb, eqb}
-use lib.ListN.{length, getD}
+use lib.ListN.{length}
 use Rattle.membership.specs.Membership.{within, among}
 use Rattle.table.specs.Place.{placeNumber, require, andThen}
-use Rattle.table.specs.Image.{version, slotCount, headSlot, nextOf, tagOf}
+use Rattle.image.specs.Image.{headerLength, mostSlots, version, slotCount, headSlot, headerZero, nextOf, imageLength, tagOf}
 use Rattle.table.specs.Header.{headerCheck}
 use Rattle.table.specs.Tag.{tagForm}
 use Rattle.table.specs.Walk.{unmet, walkIn, walked}
@@ -24,7 +24,7 @@ use Rattle.table.specs.declared.place.Verdict.{Verdict}
 use Rattle.table.specs.declared.place.Verdict.the-variants.{Passed, Failed}
 use Rattle.table.specs.declared.check.Checked.the-variants.{Refused}
 use Rattle.membership.proofs.Logic.{by-test}
-use Rattle.table.proofs.AmongLaws.{AllIn}
+use Rattle.membership.proofs.AmongLaws.{AllIn}
 use Rattle.table.proofs.ChainLaws.{chain-in}
 
 -- a verdict of numbers from 1 to `most` at places up to `last`
@@ -44,10 +44,10 @@ bounded-then most last (Failed number place) below h r = h
 header-bounded : (image : List ℕ) (last : ℕ) → Bounded 11 last (headerCheck image)
 unfolding headerCheck
 header-bounded image last =
-    bounded-require 11 last (leb 4 (length image)) 1 Header _ (omega arith) (omega arith) (omega arith)
-    (bounded-require 11 last (eqb (version image) 1 && eqb (getD image 3 0) 0) 2 Header _ (omega arith) (omega arith) (omega arith)
-    (bounded-require 11 last (within 1 64 (slotCount image)) 3 Header _ (omega arith) (omega arith) (omega arith)
-    (bounded-require 11 last (eqb (length image) (4 + 16 * slotCount image)) 4 Header Passed (omega arith) (omega arith) (omega arith) tt)))
+    bounded-require 11 last (leb headerLength (length image)) 1 Header _ (omega arith) (omega arith) (omega arith)
+    (bounded-require 11 last (eqb (version image) 1 && eqb (headerZero image) 0) 2 Header _ (omega arith) (omega arith) (omega arith)
+    (bounded-require 11 last (within 1 mostSlots (slotCount image)) 3 Header _ (omega arith) (omega arith) (omega arith)
+    (bounded-require 11 last (eqb (length image) (imageLength (slotCount image))) 4 Header Passed (omega arith) (omega arith) (omega arith) tt)))
 
 chain-bounded : (left : ℕ) (image met : List ℕ) (from : Place) (at : ℕ) → placeNumber from ≤ slotCount image
     → Bounded 11 (slotCount image) (chainVerdict (walkIn left image met from at))

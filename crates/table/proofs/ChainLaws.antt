@@ -11,7 +11,7 @@ use lib.Dec.{ltb, eqb}
 use lib.ListN.{length, getD, take, set, replicate, length-append, length-set, List·getD-append}
 use lib.Seq.{take-suc-set, getD-set-same, getD-set-other, getD-take, getD-append-seam, length-take-le}
 use Rattle.membership.specs.Membership.{among}
-use Rattle.table.specs.Image.{slotCount, headSlot, nextOf, HasSlot}
+use Rattle.image.specs.Image.{mostSlots, slotCount, headSlot, nextOf, HasSlot}
 use Rattle.table.specs.Header.{Headed}
 use Rattle.table.specs.Walk.{Met, Stopped, unmet, walkIn, walkFrom, walked}
 use Rattle.table.specs.Chain.{slotsOf, chainOf, chainVerdict, positionFrom, positionOf, Placed, Holds}
@@ -21,7 +21,8 @@ use Rattle.table.specs.declared.place.Verdict.{Verdict}
 use Rattle.table.specs.declared.place.Verdict.the-variants.{Passed, Failed}
 use Rattle.membership.proofs.Logic.{by-test}
 use Rattle.table.proofs.Logic.{not-failed}
-use Rattle.table.proofs.AmongLaws.{position-snoc, position-zero, position-some, position-test, among-at, AllIn, all-snoc, all-at}
+use Rattle.membership.proofs.AmongLaws.{among-at, AllIn, all-snoc, all-at}
+use Rattle.table.proofs.PositionLaws.{position-snoc, position-zero, position-some, position-test}
 use Rattle.table.proofs.Walk.{unmet-nil, unmet-more, walk-ends, walk-above, walk-again, walk-onward}
 
 zero-at : (n k : ℕ) → getD {A = ℕ} (replicate n 0) k 0 ≡ 0
@@ -30,9 +31,9 @@ zero-at (suc n) zero = refl
 zero-at (suc n) (suc k) = zero-at n k
 
 -- positions of no slots, for a walk to begin with
-pub no-slots : Placed [] (replicate 65 0)
+pub no-slots : Placed [] (replicate (mostSlots + 1) 0)
 unfolding positionFrom
-no-slots = record { sized = refl; placed = λ k. zero-at 65 k }
+no-slots = record { sized = refl; placed = λ k. zero-at (mostSlots + 1) k }
 
 -- the code's test of a slot is the chain's
 pub on-chain-is : (chain positions : List ℕ) (slot : ℕ) (b : Bool) → Placed chain positions
@@ -42,7 +43,7 @@ on-chain-is chain positions slot b p e =
     e ∙ (rw q (position-test slot chain))
 
 -- one slot more in the positions
-store-position : (met positions : List ℕ) (at count : ℕ) → Placed met positions → among at met ≡ false → length met ≡ count → at < 65
+store-position : (met positions : List ℕ) (at count : ℕ) → Placed met positions → among at met ≡ false → length met ≡ count → at ≤ mostSlots
     → Placed (met ++ (at ∷ [])) (set positions at (count + 1))
 store-position met positions at count p u e l = record {
   sized = simp length-set (p .sized);
@@ -60,14 +61,14 @@ store-position met positions at count p u e l = record {
 
 -- what the loop of chain::walk keeps: the walk from the slots met so far is the whole walk
 pub record Walking (image slots positions : List ℕ) (count : ℕ) (from : Place) (at : ℕ) : Type 0 where
-  pub sized : length slots ≡ 64
+  pub sized : length slots ≡ mostSlots
   pub byte : at < 256
-  pub few : count ≤ 64
+  pub few : count ≤ mostSlots
   pub room : count + unmet (slotCount image) (take count slots) ≡ slotCount image
   pub places : Placed (take count slots) positions
   pub onward : walkFrom image (take count slots) from at ≡ walked image
 
-pub walking-start : (image slots positions : List ℕ) → length slots ≡ 64 → Placed [] positions → headSlot image < 256
+pub walking-start : (image slots positions : List ℕ) → length slots ≡ mostSlots → Placed [] positions → headSlot image < 256
     → Walking image slots positions 0 Header (headSlot image)
 unfolding walked
 walking-start image slots positions e f h = record {
@@ -114,7 +115,7 @@ module _ (image slots positions : List ℕ) (count : ℕ) (from : Place) (at : �
   walking-onward z h p b =
       let u : among at (take count slots) ≡ false = not-met p in
       let c : count < slotCount image = walking-room z h p in
-      let few : slotCount image ≤ 64 = hd .few in
+      let few : slotCount image ≤ mostSlots = hd .few in
       let t : take (count + 1) (set slots count at) ≡ take count slots ++ (at ∷ []) = rw (add-one, take-suc-set slots count at (omega (arith, w .sized))) in
       record {
         sized = simp length-set (w .sized);
@@ -183,10 +184,10 @@ module _ (image : List ℕ) (count : ℕ) (slots positions : List ℕ) (hd : Hea
       rw slot-is (has-slot image (getD (chainOf image) i 0) hd (a .0) (a .1))
 
 -- no slot stands twice: each one's position is where it stands
-abbrev pub Distinct : List ℕ → Type 0
-Distinct xs = (i : ℕ) → i < length xs → positionOf (getD xs i 0) xs ≡ 1 + i
+abbrev pub Positioned : List ℕ → Type 0
+Positioned xs = (i : ℕ) → i < length xs → positionOf (getD xs i 0) xs ≡ 1 + i
 
-distinct-snoc : (xs : List ℕ) (x : ℕ) → Distinct xs → among x xs ≡ false → Distinct (xs ++ (x ∷ []))
+distinct-snoc : (xs : List ℕ) (x : ℕ) → Positioned xs → among x xs ≡ false → Positioned (xs ++ (x ∷ []))
 distinct-snoc xs x d u i l =
     by-test (ltb i (length xs))
     (λ a. let h : i < length xs = ltb-true i (length xs) a in
@@ -194,7 +195,7 @@ distinct-snoc xs x d u i l =
     (λ a. let e : i ≡ length xs = omega (arith, ltb-false i (length xs) a, length-append xs (x ∷ [])) in
     rw (e, getD-append-seam xs x [] 0) (position-snoc 1 x xs x ∙ simp (u, eq-eqb x x refl)))
 
-walk-distinct : (left : ℕ) (image met : List ℕ) (from : Place) (at : ℕ) → Distinct met → Distinct (slotsOf (walkIn left image met from at))
+walk-distinct : (left : ℕ) (image met : List ℕ) (from : Place) (at : ℕ) → Positioned met → Positioned (slotsOf (walkIn left image met from at))
 unfolding walkIn
 walk-distinct zero image met from at h =
     by-test (eqb at 0) (λ z. simp z h)
@@ -206,6 +207,6 @@ walk-distinct (suc left) image met from at h =
     (λ g. by-test (among at met) (λ m. simp (z, g, m) (λ i l. absurd (omega arith)))
     (λ m. simp (z, g, m) (walk-distinct left image (met ++ (at ∷ [])) (Slot at) (nextOf image at) (distinct-snoc met at h m)))))
 
-pub chain-distinct : (image : List ℕ) → Distinct (chainOf image)
+pub chain-distinct : (image : List ℕ) → Positioned (chainOf image)
 unfolding walked
 chain-distinct image = walk-distinct (unmet (slotCount image) []) image [] Header (headSlot image) (λ i l. absurd (omega arith))

@@ -1,14 +1,14 @@
 -- Laws of the whole check: how the verdicts of its groups make the answer. For the proof of check::check_table and for AcceptedLaws.
-use Prim.Native.Nat.{ℕ, _+_, _*_}
+use Prim.Native.Nat.{ℕ}
 use mathlib.Core.Path.{_≡_, refl, ap, sym, _∙_, subst}
 use mathlib.Core.List.{List}
 use mathlib.Core.Bool.{_&&_}
 use native.Mathlib.Omega.{arith}
 use borrow.Author.Tests.{eqb-true, leb-true}
 use lib.Dec.{leb, eqb}
-use lib.ListN.{length, getD}
+use lib.ListN.{length}
 use Rattle.membership.specs.Membership.{within}
-use Rattle.table.specs.Image.{version, slotCount}
+use Rattle.image.specs.Image.{headerLength, mostSlots, version, slotCount, headerZero, imageLength}
 use Rattle.table.specs.Header.{headerCheck, Headed}
 use Rattle.table.specs.Walk.{walked}
 use Rattle.table.specs.Chain.{chainOf, chainVerdict, Holds}
@@ -28,14 +28,14 @@ use Rattle.table.proofs.Logic.{not-failed}
 pub headed-by : (image : List ℕ) → headerCheck image ≡ Passed → Headed image
 unfolding headerCheck
 headed-by image e =
-    by-test (leb 4 (length image))
-    (λ a. by-test (eqb (version image) 1 && eqb (getD image 3 0) 0)
-    (λ b. by-test (within 1 64 (slotCount image))
-    (λ n. by-test (eqb (length image) (4 + 16 * slotCount image))
+    by-test (leb headerLength (length image))
+    (λ a. by-test (eqb (version image) 1 && eqb (headerZero image) 0)
+    (λ b. by-test (within 1 mostSlots (slotCount image))
+    (λ n. by-test (eqb (length image) (imageLength (slotCount image)))
     (λ l. record {
       some = leb-true 1 (slotCount image) (and-left _ _ n);
-      few = leb-true (slotCount image) 64 (and-right (leb 1 (slotCount image)) _ n);
-      sized = eqb-true (length image) (4 + 16 * slotCount image) l;
+      few = leb-true (slotCount image) mostSlots (and-right (leb 1 (slotCount image)) _ n);
+      sized = eqb-true (length image) (imageLength (slotCount image)) l;
     })
     (λ l. not-failed _ 4 Header refl (simp (a, b, n, l) at e)))
     (λ n. not-failed _ 3 Header refl (simp (a, b, n) at e)))

@@ -6,7 +6,7 @@ use mathlib.Core.List.{List}
 use mathlib.Core.Logic.{_⊎_}
 use native.Mathlib.Omega.{arith}
 use lib.ListN.{getD}
-use Rattle.table.specs.Image.{slotCount, wireSlot, startWire, abortWire, HasSlot}
+use Rattle.image.specs.Image.{mostSlots, slotCount, wireSlot, startWire, abortWire, HasSlot}
 use Rattle.table.specs.Chain.{chainOf}
 use Rattle.table.specs.Check.{Accepted}
 use Rattle.table.specs.Blocks.{blockIn, blocksOf, blockAt}
@@ -28,8 +28,8 @@ module _ (image : List ℕ) (count : ℕ) (slots positions : List ℕ) (ok : Acc
   held-block = accepted-block image count (ok .answer) i l ∙ ap (λ (slot : ℕ). blockIn image (chainOf image) slot) (sym held-slot)
 
   -- the slot that a wire names
-  pub held-source : (wire : ℕ) → IsWire wire → wireSlot image (getD slots i 0) wire < 65
+  pub held-source : (wire : ℕ) → IsWire wire → wireSlot image (getD slots i 0) wire ≤ mostSlots
   held-source wire w =
-      let few : slotCount image ≤ 64 = accepted-headed image count (ok .answer) .few in
+      let few : slotCount image ≤ mostSlots = accepted-headed image count (ok .answer) .few in
       let s : wireSlot image (getD (chainOf image) i 0) wire ≤ slotCount image = accepted-source image count (ok .answer) i l wire w in
       rw held-slot (omega arith)

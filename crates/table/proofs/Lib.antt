@@ -1,5 +1,5 @@
 pub mod Logic
-pub mod AmongLaws
+pub mod PositionLaws
 pub mod Walk
 pub mod ChainLaws
 pub mod TagLaws
@@ -8,6 +8,7 @@ pub mod SpareLaws
 pub mod CheckLaws
 pub mod BlockLaws
 pub mod AcceptedLaws
+pub mod Accepted
 pub mod HeldLaws
 pub mod AnswerLaws
 pub mod SearchLaws

@@ -10,7 +10,7 @@ use borrow.Author.Tests.{eqb-true, eqb-false}
 use lib.Dec.{eqb}
 use lib.ListN.{length, getD}
 use Rattle.table.specs.Place.{placeNumber}
-use Rattle.table.specs.Image.{slotCount, tagOf}
+use Rattle.image.specs.Image.{slotCount, tagOf}
 use Rattle.table.specs.Tag.{tagForm, sameBytes}
 use Rattle.table.specs.Chain.{chainOf}
 use Rattle.table.specs.Check.{checkOf}
@@ -25,7 +25,7 @@ use Rattle.membership.proofs.Logic.{by-test, not-both}
 use Rattle.table.proofs.TagLaws.{same-equal, same-self}
 use Rattle.table.proofs.AcceptedLaws.{accepted-count, accepted-block, accepted-tags}
 use Rattle.table.proofs.AnswerLaws.{refusal-bounds}
-use Rattle.table.proofs.SearchLaws.{find-at, find-51}
+use Rattle.table.proofs.SearchLaws.{tag-at, tag-51, find-checks}
 
 module _ (image tag : List ℕ) where
   -- a position that is found is not below the first
@@ -37,7 +37,7 @@ module _ (image tag : List ℕ) where
       (λ s. simp s (omega (arith, position-least (suc p) slots (simp s at h))))
 
   -- the slot at the position has the tag
-  position-has : (p : ℕ) (slots : List ℕ) → 0 < p → (i : ℕ) → tagPosition image tag p slots ≡ p + i → (i < length slots) × (tagOf image (getD slots i 0) ≡ tag)
+  pub position-has : (p : ℕ) (slots : List ℕ) → 0 < p → (i : ℕ) → tagPosition image tag p slots ≡ p + i → (i < length slots) × (tagOf image (getD slots i 0) ≡ tag)
   unfolding tagPosition
   position-has p [] h i e = absurd (omega arith)
   position-has p (k ∷ slots) h zero e =
@@ -51,7 +51,7 @@ module _ (image tag : List ℕ) where
       (omega (arith, q .0), q .1))
 
   -- where none is found no slot has it
-  position-none : (p : ℕ) (slots : List ℕ) → 0 < p → tagPosition image tag p slots ≡ 0 → (i : ℕ) → i < length slots → tagOf image (getD slots i 0) ≡ tag → ⊥
+  pub position-none : (p : ℕ) (slots : List ℕ) → 0 < p → tagPosition image tag p slots ≡ 0 → (i : ℕ) → i < length slots → tagOf image (getD slots i 0) ≡ tag → ⊥
   unfolding tagPosition
   position-none p [] h e i l q = omega arith
   position-none p (k ∷ slots) h e zero l q =
@@ -62,7 +62,7 @@ module _ (image tag : List ℕ) where
       (λ s. position-none (suc p) slots (omega arith) (simp s at e) i (omega arith) q)
 
   -- the block at an index of an accepted table has its slot's tag
-  block-tag : (n i : ℕ) → checkOf image ≡ Blocks n → i < n → blockAt (blocksOf image) i .tag ≡ tagOf image (getD (chainOf image) i 0)
+  pub block-tag : (n i : ℕ) → checkOf image ≡ Blocks n → i < n → blockAt (blocksOf image) i .tag ≡ tagOf image (getD (chainOf image) i 0)
   unfolding blockIn
   block-tag n i ok l = rw (accepted-block image n ok i l)
 
@@ -73,7 +73,7 @@ module _ (image tag : List ℕ) where
       let l : p - 1 < n = omega (arith, r .0, accepted-count image n ok) in
       record { first = h; last = omega arith; same = block-tag n (p - 1) ok l ∙ r .1 }
 
-  has-once : (n p q : ℕ) → checkOf image ≡ Blocks n → HasTag image tag n p → HasTag image tag n q → p ≡ q
+  pub has-once : (n p q : ℕ) → checkOf image ≡ Blocks n → HasTag image tag n p → HasTag image tag n q → p ≡ q
   has-once n p q ok a b =
       let i : p - 1 < n = omega (arith, a .first, a .last) in
       let j : q - 1 < n = omega (arith, b .first, b .last) in
@@ -138,7 +138,7 @@ found-when image tag p f =
     (λ z. absurd (none-found image tag n p (f .answer) (eqb-true _ _ z) (f .has)))
     (λ z. let m : (tagPosition image tag 1 (chainOf image) ≡ 0 → ⊥) = eqb-false _ _ z in
     let h = searched image tag n (tagPosition image tag 1 (chainOf image)) (f .answer) (omega arith) refl in
-    sym (find-at image tag n (tagPosition image tag 1 (chainOf image)) (f .answer) (f .form) refl m)
+    sym (tag-at image tag (tagPosition image tag 1 (chainOf image)) (f .form) refl m ∙ find-checks image tag n (f .answer))
     ∙ ap At (has-once image tag n (tagPosition image tag 1 (chainOf image)) p (f .answer) h (f .has)))
 
 pub found-once : FoundOnce
@@ -153,6 +153,6 @@ pub no-tag-when : NoTagWhen
 no-tag-when image tag f =
     let n = f .blocks in
     by-test (eqb (tagPosition image tag 1 (chainOf image)) 0)
-    (λ z. sym (find-51 image tag n (tagPosition image tag 1 (chainOf image)) (f .answer) (f .form) refl (eqb-true _ _ z)))
+    (λ z. sym (tag-51 image tag (tagPosition image tag 1 (chainOf image)) (f .form) refl (eqb-true _ _ z) ∙ find-checks image tag n (f .answer)))
     (λ z. let m : (tagPosition image tag 1 (chainOf image) ≡ 0 → ⊥) = eqb-false _ _ z in
     absurd (f .none (tagPosition image tag 1 (chainOf image)) (searched image tag n (tagPosition image tag 1 (chainOf image)) (f .answer) (omega arith) refl)))

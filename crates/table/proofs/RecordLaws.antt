@@ -12,7 +12,7 @@ use lib.Seq.{drop-cons, drop-length, take-suc, getD-set-same, getD-set-other}
 use Rattle.words.specs.Word.{Bytes, number}
 use Rattle.membership.proofs.Logic.{by-test, not-both}
 use Rattle.table.specs.Place.{andThen}
-use Rattle.table.specs.Image.{slotCount, tagOf, HasSlot}
+use Rattle.image.specs.Image.{slotCount, tagOf, HasSlot}
 use Rattle.table.specs.Header.{Headed}
 use Rattle.table.specs.Tag.{sameBytes}
 use Rattle.table.specs.Chain.{chainOf}
@@ -21,17 +21,17 @@ use Rattle.table.specs.Record.{tagAmong, recordCheck, recordsFrom, recor
 use Rattle.table.specs.declared.place.Place.{Place}
 use Rattle.table.specs.declared.place.Verdict.{Verdict}
 use Rattle.table.specs.declared.place.Verdict.the-variants.{Passed, Failed}
-use Rattle.table.proofs.AmongLaws.{AllIn, all-take}
+use Rattle.membership.proofs.AmongLaws.{AllIn, all-take}
 use Rattle.table.proofs.ChainLaws.{chain-in, has-slot}
 use Rattle.table.proofs.TagLaws.{same-number, tag-length, tag-bytes}
 
 -- two slots of the table have the same tag where its numbers are the same
-same-tags : (image : List ℕ) → Headed image → Bytes image → (x k : ℕ) → HasSlot image x → HasSlot image k
+pub same-tags : (image : List ℕ) → Headed image → Bytes image → (x k : ℕ) → HasSlot image x → HasSlot image k
     → sameBytes (tagOf image x) (tagOf image k) ≡ eqb (number (tagOf image x)) (number (tagOf image k))
 same-tags image hd by x k hx hk =
     same-number (tagOf image x) (tagOf image k) (tag-length image x hx ∙ sym (tag-length image k hk)) (tag-bytes image x by) (tag-bytes image k by)
 
-tag-among-snoc : (image tag ks : List ℕ) (k : ℕ) → tagAmong image tag (ks ++ (k ∷ [])) ≡ (tagAmong image tag ks || sameBytes (tagOf image k) tag)
+pub tag-among-snoc : (image tag ks : List ℕ) (k : ℕ) → tagAmong image tag (ks ++ (k ∷ [])) ≡ (tagAmong image tag ks || sameBytes (tagOf image k) tag)
 unfolding tagAmong
 tag-among-snoc image tag [] k = by-test (sameBytes (tagOf image k) tag) (λ e. simp e) (λ e. simp e)
 tag-among-snoc image tag (x ∷ ks) k =

@@ -1,7 +1,7 @@
--- Laws of the search for a tag: what the loop of lookup::tag_position keeps, and how find's checks make its answer. For the proofs of the
+-- Laws of the search for a tag: what the loop of lookup::tag_position keeps, and how its checks make find's answer. For the proofs of the
 -- lookup module and for LookupLaws.
 use Prim.Native.Nat.{ℕ, zero, suc, _+_, _-_, _≤_, _<_}
-use mathlib.Core.Path.{_≡_, refl, ap, sym, _∙_, subst}
+use mathlib.Core.Path.{_≡_, refl, sym, _∙_, subst}
 use mathlib.Core.List.{List, [], _∷_}
 use mathlib.Core.Bool.{true, false, cond}
 use native.Mathlib.Omega.{arith}
@@ -11,14 +11,13 @@ use lib.Dec.{eqb}
 use lib.ListN.{length, getD, drop}
 use lib.Seq.{drop-cons, drop-length}
 use Rattle.words.specs.Word.{Bytes, number}
-use Rattle.table.specs.Image.{slotBytes, tagOf}
+use Rattle.image.specs.Image.{tagLength, slotBytes, tagOf}
 use Rattle.table.specs.Tag.{tagForm, sameBytes}
 use Rattle.table.specs.Chain.{chainOf}
 use Rattle.table.specs.Check.{checkOf, Accepted}
-use Rattle.table.specs.Lookup.{tagPosition, foundAt, afterTable, findOf, showOf, slotAt, FoundSlot}
+use Rattle.table.specs.Lookup.{tagPosition, foundAt, tagChecks, findOf, showOf, slotAt, FoundSlot}
 use Rattle.table.specs.declared.place.Place.{Place}
 use Rattle.table.specs.declared.place.Place.the-variants.{Header}
-use Rattle.table.specs.declared.check.Checked.{Checked}
 use Rattle.table.specs.declared.check.Checked.the-variants.{Blocks, Refused as CheckRefused}
 use Rattle.table.specs.declared.lookup.Found.{Found}
 use Rattle.table.specs.declared.lookup.Found.the-variants.{At, Refused}
@@ -41,7 +40,7 @@ position-within image tag p [] = omega arith
 position-within image tag p (k ∷ slots) =
     by-test (sameBytes (tagOf image k) tag) (λ e. simp e (omega arith)) (λ e. simp e (omega (arith, position-within image tag (suc p) slots)))
 
-module _ (image tag : List ℕ) (n i : ℕ) (ok : checkOf image ≡ Blocks n) (by : Bytes image) (eight : length tag ≡ 8) (bt : Bytes tag) (r : Searching image tag i) where
+module _ (image tag : List ℕ) (n i : ℕ) (ok : checkOf image ≡ Blocks n) (by : Bytes image) (eight : length tag ≡ tagLength) (bt : Bytes tag) (r : Searching image tag i) where
   position-at : i < n → tagPosition image tag (i + 1) (drop i (chainOf image))
       ≡ cond (eqb (number (tagOf image (getD (chainOf image) i 0))) (number tag)) (i + 1) (tagPosition image tag (i + 1 + 1) (drop (i + 1) (chainOf image)))
   unfolding tagPosition
@@ -65,30 +64,29 @@ module _ (image tag : List ℕ) (n i : ℕ) (ok : checkOf image ≡ Blocks n) (b
       let o : tagPosition image tag (i + 1) (drop i (chainOf image)) ≡ 0 = rw (z, drop-length) in
       sym o ∙ r .onward
 
--- find, by its checks
+-- checks 50 and 51
 module _ (image tag : List ℕ) where
-  pub find-refused : (answer : Checked) (found : Found) (number : ℕ) (place : Place) → answer ≡ checkOf image → answer ≡ CheckRefused number place
-      → found ≡ afterTable answer (At 0) → (found ≡ findOf image tag) × FoundSlot image found 0
-  unfolding findOf
-  find-refused answer found number place a e f =
-      let g : found ≡ Refused number place = f ∙ ap (λ (x : Checked). afterTable x (At 0)) e in
-      (rw (sym a ∙ e) g, subst (λ (x : Found). FoundSlot image x 0) (sym g) tt)
+  pub tag-50 : tagForm tag ≡ false → Refused 50 Header ≡ tagChecks image tag
+  tag-50 f = simp f
 
-  pub find-50 : (n : ℕ) → checkOf image ≡ Blocks n → tagForm tag ≡ false → Refused 50 Header ≡ findOf image tag
-  unfolding findOf
-  find-50 n e f = simp (e, f)
-
-  pub find-51 : (n p : ℕ) → checkOf image ≡ Blocks n → tagForm tag ≡ true → p ≡ tagPosition image tag 1 (chainOf image) → p ≡ 0 → Refused 51 Header ≡ findOf image tag
-  unfolding findOf
-  find-51 n p e f g z = simp (e, f, sym g ∙ z)
+  pub tag-51 : (p : ℕ) → tagForm tag ≡ true → p ≡ tagPosition image tag 1 (chainOf image) → p ≡ 0 → Refused 51 Header ≡ tagChecks image tag
+  tag-51 p f g z = simp (f, sym g ∙ z)
 
   some-position : (p : ℕ) → 0 < p → At p ≡ foundAt p
   some-position zero h = absurd (omega arith)
   some-position (suc p) h = refl
 
-  pub find-at : (n p : ℕ) → checkOf image ≡ Blocks n → tagForm tag ≡ true → p ≡ tagPosition image tag 1 (chainOf image) → (p ≡ 0 → ⊥) → At p ≡ findOf image tag
+  pub tag-at : (p : ℕ) → tagForm tag ≡ true → p ≡ tagPosition image tag 1 (chainOf image) → (p ≡ 0 → ⊥) → At p ≡ tagChecks image tag
+  tag-at p f g z = simp (f, sym g) (some-position p (omega arith))
+
+  -- find, by the table's checks
+  pub find-refused : (number : ℕ) (place : Place) → checkOf image ≡ CheckRefused number place → Refused number place ≡ findOf image tag
   unfolding findOf
-  find-at n p e f g z = simp (e, f, sym g) (some-position p (omega arith))
+  find-refused number place e = simp e
+
+  pub find-checks : (n : ℕ) → checkOf image ≡ Blocks n → tagChecks image tag ≡ findOf image tag
+  unfolding findOf
+  find-checks n e = simp e
 
 -- the slot at a position that was found
 module _ (image tag : List ℕ) (count : ℕ) (slots positions : List ℕ) (ok : Accepted image count slots positions) (p : ℕ)

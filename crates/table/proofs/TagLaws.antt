@@ -12,7 +12,7 @@ use lib.ListN.{length, getD, drop, length-take, length-drop, List·getD-eq-defau
 use lib.Seq.{drop-cons, drop-length, getD-take, getD-drop, length-take-le}
 use Rattle.words.specs.Word.{Bytes, number}
 use Rattle.words.proofs.WordLaws.{number-injective}
-use Rattle.table.specs.Image.{slotStart, tagOf, HasSlot}
+use Rattle.image.specs.Image.{slotStart, tagPlace, tagLength, tagOf, HasSlot}
 use Rattle.table.specs.Tag.{tagChar, spaces, padded, tagText, tagForm, sameBytes}
 use Rattle.membership.proofs.Logic.{by-test, not-both, and-left}
 
@@ -39,17 +39,17 @@ module _ (t : List ℕ) (i : ℕ) where
   padded-past h = rw (h, drop-length)
 
 -- the form of eight bytes, by the first one
-pub form-first : (t : List ℕ) → length t ≡ 8 → tagForm t ≡ (tagChar (getD t 0 0) && padded (drop 1 t))
+pub form-first : (t : List ℕ) → length t ≡ tagLength → tagForm t ≡ (tagChar (getD t 0 0) && padded (drop 1 t))
 unfolding tagForm
 form-first t e = simp (eq-eqb _ _ e) (text-at t 0 (omega arith))
 
-pub form-short : (t : List ℕ) → (length t ≡ 8 → ⊥) → false ≡ tagForm t
+pub form-short : (t : List ℕ) → (length t ≡ tagLength → ⊥) → false ≡ tagForm t
 unfolding tagForm
 form-short t n = simp (ne-eqb _ _ n)
 
-pub form-eight : (t : List ℕ) → tagForm t ≡ true → length t ≡ 8
+pub form-eight : (t : List ℕ) → tagForm t ≡ true → length t ≡ tagLength
 unfolding tagForm
-form-eight t h = eqb-true (length t) 8 (and-left _ _ h)
+form-eight t h = eqb-true (length t) tagLength (and-left _ _ h)
 
 -- the same bytes are equal lists
 pub same-equal : (t u : List ℕ) → sameBytes t u ≡ true → t ≡ u
@@ -79,12 +79,12 @@ same-number t u e b c =
     (λ s. rw (h, s)))
 
 -- a slot's tag has eight bytes
-pub tag-length : (image : List ℕ) (slot : ℕ) → HasSlot image slot → length (tagOf image slot) ≡ 8
-tag-length image slot h = length-take-le 8 (drop (slotStart slot + 8) image) (rw length-drop (omega arith))
+pub tag-length : (image : List ℕ) (slot : ℕ) → HasSlot image slot → length (tagOf image slot) ≡ tagLength
+tag-length image slot h = length-take-le tagLength (drop (slotStart slot + tagPlace) image) (rw length-drop (omega arith))
 
 pub tag-bytes : (image : List ℕ) (slot : ℕ) → Bytes image → Bytes (tagOf image slot)
 tag-bytes image slot b i =
-    by-test (ltb i 8)
-    (λ a. rw (getD-take 8 (drop (slotStart slot + 8) image) i 0 (ltb-true i 8 a), getD-drop) (b (slotStart slot + 8 + i)))
-    (λ a. let l : length (tagOf image slot) ≤ i = omega (arith, length-take 8 (drop (slotStart slot + 8) image), ltb-false i 8 a) in
+    by-test (ltb i tagLength)
+    (λ a. rw (getD-take tagLength (drop (slotStart slot + tagPlace) image) i 0 (ltb-true i tagLength a), getD-drop) (b (slotStart slot + tagPlace + i)))
+    (λ a. let l : length (tagOf image slot) ≤ i = omega (arith, length-take tagLength (drop (slotStart slot + tagPlace) image), ltb-false i tagLength a) in
     rw (List·getD-eq-default (tagOf image slot) 0 l) (omega arith))

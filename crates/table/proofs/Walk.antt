@@ -8,12 +8,12 @@ use native.Mathlib.Omega.{arith}
 use borrow.Author.Tests.{lt-ltb, le-ltb, eq-eqb, ne-eqb, eqb-true, eqb-false, ltb-true, ltb-false}
 use lib.Dec.{ltb, eqb}
 use Rattle.membership.specs.Membership.{among}
-use Rattle.table.specs.Image.{slotCount, headSlot, nextOf}
+use Rattle.image.specs.Image.{slotCount, headSlot, nextOf}
 use Rattle.table.specs.Walk.{Walked, Met, Stopped, Walk, ends, above, again, onward, atLink, unmet, walkIn, walkFrom, walked, WalkByRules}
 use Rattle.table.specs.declared.place.Place.{Place}
 use Rattle.table.specs.declared.place.Place.the-variants.{Header, Slot}
 use Rattle.membership.proofs.Logic.{by-test}
-use Rattle.table.proofs.AmongLaws.{among-snoc}
+use Rattle.membership.proofs.AmongLaws.{among-snoc}
 
 -- how many slots are not met: all at first,
 pub unmet-nil : (n : ℕ) → unmet n [] ≡ n

@@ -4,7 +4,7 @@ use mathlib.Core.List.{List, [], _∷_}
 use mathlib.Core.Bool.{false, cond}
 use lib.Dec.{leb, eqb}
 use lib.ListN.{getD}
-use Rattle.table.specs.Image.{kindOf, wireSlot, wireCode, startWire, abortWire, tagOf}
+use Rattle.image.specs.Image.{kindOf, wireSlot, wireCode, startWire, abortWire, tagOf}
 use Rattle.table.specs.Chain.{chainOf, positionOf}
 use Rattle.table.specs.declared.blocks.Wire.{Wire}
 use Rattle.table.specs.declared.blocks.Wiring.{Wiring}

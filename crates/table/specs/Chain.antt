@@ -1,10 +1,11 @@
 -- Document 01: the chain, checks 5 and 6. "The k-th block met has position k."
-use Prim.Native.Nat.{ℕ, suc, _≤_}
+use Prim.Native.Nat.{ℕ, suc, _+_, _≤_}
 use mathlib.Core.Path.{_≡_}
 use mathlib.Core.List.{List, [], _∷_}
 use mathlib.Core.Bool.{cond}
 use lib.Dec.{eqb}
 use lib.ListN.{length, getD, take}
+use Rattle.image.specs.Image.{mostSlots}
 use Rattle.table.specs.Walk.{Walked, Met, Stopped, walked}
 use Rattle.table.specs.declared.place.Verdict.{Verdict}
 use Rattle.table.specs.declared.place.Verdict.the-variants.{Passed, Failed}
@@ -32,12 +33,12 @@ positionOf slot chain = positionFrom 1 slot chain
 
 -- What the code holds of a chain: the position of each slot,
 pub record Placed (chain positions : List ℕ) : Type 0 where
-  pub sized : length positions ≡ 65
+  pub sized : length positions ≡ mostSlots + 1
   pub placed : (slot : ℕ) → getD positions slot 0 ≡ positionOf slot chain
 
 -- and its slots, the first `count` of `slots`.
 pub record Holds (chain : List ℕ) (count : ℕ) (slots positions : List ℕ) : Type 0 where
   pub listed : take count slots ≡ chain
   pub counted : length chain ≡ count
-  pub few : count ≤ 64
+  pub few : count ≤ mostSlots
   pub places : Placed chain positions

@@ -1,5 +1,4 @@
 pub mod Place
-pub mod Image
 pub mod Header
 pub mod Tag
 pub mod Walk
@@ -10,3 +9,4 @@ pub mod Spare
 pub mod Check
 pub mod Lookup
 pub mod Blocks
+pub mod Accepted

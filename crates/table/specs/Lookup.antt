@@ -5,7 +5,7 @@ use mathlib.Core.List.{List, [], _∷_}
 use mathlib.Core.Bool.{true, cond}
 use lib.ListN.{getD}
 use Rattle.table.specs.Place.{placeNumber, Answer, value, refusal}
-use Rattle.table.specs.Image.{slotBytes, tagOf, HasSlot}
+use Rattle.image.specs.Image.{slotBytes, tagOf, HasSlot}
 use Rattle.table.specs.Tag.{tagForm, sameBytes}
 use Rattle.table.specs.Chain.{chainOf}
 use Rattle.table.specs.Check.{checkOf}

@@ -1,12 +1,12 @@
 -- Document 01, checks 7 to 10: the records, "in chain order, each through 7, 8, 9, 10 before the next".
-use Prim.Native.Nat.{ℕ, _%_}
+use Prim.Native.Nat.{ℕ, _+_, _%_}
 use mathlib.Core.List.{List, [], _∷_, _++_}
 use mathlib.Core.Bool.{Bool, false, cond, not, _&&_, _||_}
 use lib.Dec.{ltb, eqb}
 use Rattle.kind.specs.Kind.{isKind, hasAbort}
 use Rattle.membership.specs.Membership.{among}
 use Rattle.table.specs.Place.{require, andThen}
-use Rattle.table.specs.Image.{slotByte, kindOf, wireSlot, wireCode, startWire, abortWire, tagOf}
+use Rattle.image.specs.Image.{zeroPlace, slotByte, kindOf, wireSlot, wireCode, startWire, abortWire, tagOf}
 use Rattle.table.specs.Tag.{tagForm, sameBytes}
 use Rattle.table.specs.Chain.{chainOf}
 use Rattle.table.specs.declared.place.Place.the-variants.{Slot}
@@ -15,7 +15,7 @@ use Rattle.table.specs.declared.place.Verdict.the-variants.{Passed}
 
 -- 7: "kind, or bytes 6-7"
 abbrev pub kindOk : List ℕ → ℕ → Bool
-kindOk image slot = isKind (kindOf image slot) && eqb (slotByte image slot 6) 0 && eqb (slotByte image slot 7) 0
+kindOk image slot = isKind (kindOf image slot) && eqb (slotByte image slot zeroPlace) 0 && eqb (slotByte image slot (zeroPlace + 1)) 0
 
 -- 9: "tag of an earlier block"
 unfoldable pub tagAmong : List ℕ → List ℕ → List ℕ → Bool

@@ -5,7 +5,7 @@ use mathlib.Core.Bool.{Bool, true, _&&_, _||_}
 use lib.Dec.{eqb}
 use Rattle.membership.specs.Membership.{among}
 use Rattle.table.specs.Place.{require}
-use Rattle.table.specs.Image.{slotCount, slotBytes}
+use Rattle.image.specs.Image.{slotCount, slotBytes}
 use Rattle.table.specs.Chain.{chainOf}
 use Rattle.table.specs.declared.place.Place.the-variants.{Slot}
 use Rattle.table.specs.declared.place.Verdict.{Verdict}

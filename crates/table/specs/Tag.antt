@@ -5,6 +5,7 @@ use mathlib.Core.Bool.{Bool, true, false, cond, _&&_, _||_}
 use lib.Dec.{eqb}
 use lib.ListN.{length}
 use Rattle.membership.specs.Membership.{within}
+use Rattle.image.specs.Image.{tagLength}
 
 -- "A-Z and 0-9"
 unfoldable pub tagChar : ℕ → Bool
@@ -27,7 +28,7 @@ tagText (b ∷ t) = tagChar b && padded t
 
 -- "to eight bytes"
 unfoldable pub tagForm : List ℕ → Bool
-tagForm t = eqb (length t) 8 && tagText t
+tagForm t = eqb (length t) tagLength && tagText t
 
 -- two tags are the same where all their bytes are
 unfoldable pub sameBytes : List ℕ → List ℕ → Bool

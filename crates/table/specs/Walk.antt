@@ -5,7 +5,7 @@ use mathlib.Core.List.{List, [], _∷_, _++_}
 use mathlib.Core.Bool.{true, false, cond}
 use lib.Dec.{ltb, eqb}
 use Rattle.membership.specs.Membership.{among}
-use Rattle.table.specs.Image.{slotCount, headSlot, nextOf}
+use Rattle.image.specs.Image.{slotCount, headSlot, nextOf}
 use Rattle.table.specs.declared.place.Place.{Place}
 use Rattle.table.specs.declared.place.Place.the-variants.{Header, Slot}
 

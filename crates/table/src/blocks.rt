@@ -1,14 +1,15 @@
 // The kind and the wires of a block of an accepted table, by its index on the chain, from 0.
 ghost use mathlib.Core.Path.{_≡_};
-ghost use Prim.Native.Nat.{_<_};
-ghost use Rattle.table.specs.Image.{wireSlot, wireCode, HasSlot};
+ghost use Prim.Native.Nat.{_+_, _<_, _≤_};
+ghost use Rattle.image.specs.Image.{mostSlots, slotLength, wireSlot, wireCode, HasSlot};
 ghost use Rattle.table.specs.Chain.{chainOf, Placed};
 ghost use Rattle.table.specs.Check.{Accepted};
 ghost use Rattle.table.specs.Blocks.{wireOf, blocksOf, blockAt, wiringAt};
-use crate::image::ABORT_WIRE;
-use crate::image::KIND;
-use crate::image::START_WIRE;
-use crate::image::slot_byte;
+use image::ABORT_WIRE;
+use image::KIND;
+use image::MOST_SLOTS;
+use image::START_WIRE;
+use image::slot_byte;
 
 // An input: flag 0 busy, 1 done, 2 error or 3 aborted of the block at a position. Position 0: the input bit of the frame.
 pub struct Wire {
@@ -25,10 +26,10 @@ pub struct Wiring {
 }
 
 // A wire of a slot, by where its two bytes stand.
-fn wire_at(image: &[u8], positions: &[u8; 65], slot: u8, wire: usize) -> Wire
+fn wire_at(image: &[u8], positions: &[u8; MOST_SLOTS + 1], slot: u8, wire: usize) -> Wire
     requires { ⌜ HasSlot (now image) slot ⌝ }
-    requires { ⌜ wire < 15 ⌝ }
-    requires { ⌜ wireSlot (now image) slot wire < 65 ⌝ }
+    requires { ⌜ wire + 1 < slotLength ⌝ }
+    requires { ⌜ wireSlot (now image) slot wire ≤ mostSlots ⌝ }
     requires { ⌜ Placed (chainOf (now image)) (now positions) ⌝ }
     ensures { λ r. ⌜ r ≡ wireOf (chainOf (now (image .entry))) (wireSlot (now (image .entry)) slot wire) (wireCode (now (image .entry)) slot wire) ⌝ }
 {
@@ -50,7 +51,13 @@ fn wire_at(image: &[u8], positions: &[u8; 65], slot: u8, wire: usize) -> Wire
 }
 
 // The kind of block i.
-pub fn kind_at(image: &[u8], slots: &[u8; 64], positions: &[u8; 65], count: usize, i: usize) -> u8
+pub fn kind_at(
+    image: &[u8],
+    slots: &[u8; MOST_SLOTS],
+    positions: &[u8; MOST_SLOTS + 1],
+    count: usize,
+    i: usize,
+) -> u8
     requires { ⌜ Accepted (now image) count (now slots) (now positions) ⌝ }
     requires { ⌜ i < count ⌝ }
     ensures { λ r. ⌜ r ≡ blockAt (blocksOf (now (image .entry))) i .kind ⌝ }
@@ -59,7 +66,13 @@ pub fn kind_at(image: &[u8], slots: &[u8; 64], positions: &[u8; 65], count: usiz
 }
 
 // The start wire of block i.
-fn start_wire(image: &[u8], slots: &[u8; 64], positions: &[u8; 65], count: usize, i: usize) -> Wire
+fn start_wire(
+    image: &[u8],
+    slots: &[u8; MOST_SLOTS],
+    positions: &[u8; MOST_SLOTS + 1],
+    count: usize,
+    i: usize,
+) -> Wire
     requires { ⌜ Accepted (now image) count (now slots) (now positions) ⌝ }
     requires { ⌜ i < count ⌝ }
     ensures { λ r. ⌜ r ≡ blockAt (blocksOf (now (image .entry))) i .start ⌝ }
@@ -68,7 +81,13 @@ fn start_wire(image: &[u8], slots: &[u8; 64], positions: &[u8; 65], count: usize
 }
 
 // The abort wire of block i; on a kind without abort, from the frame.
-fn abort_wire(image: &[u8], slots: &[u8; 64], positions: &[u8; 65], count: usize, i: usize) -> Wire
+fn abort_wire(
+    image: &[u8],
+    slots: &[u8; MOST_SLOTS],
+    positions: &[u8; MOST_SLOTS + 1],
+    count: usize,
+    i: usize,
+) -> Wire
     requires { ⌜ Accepted (now image) count (now slots) (now positions) ⌝ }
     requires { ⌜ i < count ⌝ }
     ensures { λ r. ⌜ r ≡ blockAt (blocksOf (now (image .entry))) i .abort ⌝ }
@@ -79,8 +98,8 @@ fn abort_wire(image: &[u8], slots: &[u8; 64], positions: &[u8; 65], count: usize
 // The kind and the wires of block i.
 pub fn wiring_at(
     image: &[u8],
-    slots: &[u8; 64],
-    positions: &[u8; 65],
+    slots: &[u8; MOST_SLOTS],
+    positions: &[u8; MOST_SLOTS + 1],
     count: usize,
     i: usize,
 ) -> Wiring

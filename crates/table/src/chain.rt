@@ -4,11 +4,15 @@ ghost use mathlib.Core.List.{[]};
 ghost use mathlib.Core.Bool.{not};
 ghost use lib.Dec.{eqb};
 ghost use lib.ListN.{length, getD};
+ghost use Prim.Native.Nat.{_+_};
+ghost use Rattle.image.specs.Image.{mostSlots};
 ghost use Rattle.table.specs.Header.{Headed};
 ghost use Rattle.table.specs.Walk.{walked};
 ghost use Rattle.table.specs.Chain.{chainOf, chainVerdict, Placed, Holds};
 use crate::place::Place;
 use crate::place::Verdict;
+use image::MOST_SLOTS;
+use image::SLOT_COUNT;
 use walker::slot_after;
 
 // What a walk finds, and the number of slots met.
@@ -18,14 +22,18 @@ pub struct ChainWalk {
 }
 
 // The first `count` of `slots` become the chain's slots, in order, and `positions` has the position of each slot, 0 off the chain.
-pub fn walk(image: &[u8], slots: &mut [u8; 64], positions: &mut [u8; 65]) -> ChainWalk
+pub fn walk(
+    image: &[u8],
+    slots: &mut [u8; MOST_SLOTS],
+    positions: &mut [u8; MOST_SLOTS + 1],
+) -> ChainWalk
     requires { ⌜ Headed (now image) ⌝ }
-    requires { ⌜ (length (now slots) ≡ 64) × Placed [] (now positions) ⌝ }
+    requires { ⌜ (length (now slots) ≡ mostSlots) × Placed [] (now positions) ⌝ }
     ensures { λ r. ⌜ (r .verdict ≡ chainVerdict (walked (now (image .entry)))) × (r .verdict ≡ Verdict.Passed → Holds (chainOf (now (image .entry))) (r .count) (now (slots .exit)) (now (positions .exit))) ⌝ }
 {
     let mut count: usize = 0;
     let mut from = Place::Header;
-    let n = image[1];
+    let n = image[SLOT_COUNT];
     let mut at = slot_after(image, 0);
     while at != 0 {
         if n < at {
@@ -54,12 +62,12 @@ pub fn walk(image: &[u8], slots: &mut [u8; 64], positions: &mut [u8; 65]) -> Cha
 }
 
 // Whether a slot is on the chain.
-pub fn on_chain(positions: &[u8; 65], slot: u8) -> bool
-    requires { ⌜ length (now positions) ≡ 65 ⌝ }
+pub fn on_chain(positions: &[u8; MOST_SLOTS + 1], slot: u8) -> bool
+    requires { ⌜ length (now positions) ≡ mostSlots + 1 ⌝ }
     ensures { λ r. ⌜ r ≡ not (eqb (getD (now (positions .entry)) slot 0) 0) ⌝ }
 {
-    if slot < 65 {
-        let i = slot as usize;
+    let i = slot as usize;
+    if i <= MOST_SLOTS {
         return positions[i] != 0;
     }
     false

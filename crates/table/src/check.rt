@@ -3,14 +3,16 @@ ghost use mathlib.Core.Path.{_≡_};
 ghost use mathlib.Core.List.{[]};
 ghost use Prim.Native.Nat.{ℕ};
 ghost use lib.ListN.{length};
+ghost use Rattle.image.specs.Image.{mostSlots};
 ghost use Rattle.table.specs.Chain.{Placed};
-ghost use Rattle.table.specs.Check.{checkedAs, checkOf, Accepted};
+ghost use Rattle.table.specs.Check.{checkedAs, checkOf, checkedAnswer, Accepted};
 use crate::chain::walk;
 use crate::header::check_header;
 use crate::place::Place;
 use crate::place::Verdict;
 use crate::record::check_records;
 use crate::spare::check_spares;
+use image::MOST_SLOTS;
 
 // The number of blocks, or a refusal.
 pub enum Checked {
@@ -29,8 +31,12 @@ fn answered(verdict: Verdict, count: usize) -> Checked
 }
 
 // All checks; the chain of an accepted table is left in the two arrays, for the layers above.
-pub fn check_table(image: &[u8], slots: &mut [u8; 64], positions: &mut [u8; 65]) -> Checked
-    requires { ⌜ (length (now slots) ≡ 64) × Placed [] (now positions) ⌝ }
+pub fn check_table(
+    image: &[u8],
+    slots: &mut [u8; MOST_SLOTS],
+    positions: &mut [u8; MOST_SLOTS + 1],
+) -> Checked
+    requires { ⌜ (length (now slots) ≡ mostSlots) × Placed [] (now positions) ⌝ }
     ensures { λ r. ⌜ (r ≡ checkOf (now (image .entry))) × ((n : ℕ) → r ≡ Checked.Blocks n → Accepted (now (image .entry)) n (now (slots .exit)) (now (positions .exit))) ⌝ }
 {
     let header = check_header(image);
@@ -53,9 +59,10 @@ pub fn check_table(image: &[u8], slots: &mut [u8; 64], positions: &mut [u8; 65])
 
 // The number of blocks of an accepted table, or the first check that fails.
 pub fn check(image: &[u8]) -> Checked
-    ensures { λ r. ⌜ r ≡ checkOf (now (image .entry)) ⌝ }
+    ensures answer { λ r. ⌜ r ≡ checkOf (now (image .entry)) ⌝ }
+    ensures numbers { λ r. ⌜ checkedAnswer r ≡ checkedAnswer (checkOf (now (image .entry))) ⌝ }
 {
-    let mut slots = [0u8; 64];
-    let mut positions = [0u8; 65];
+    let mut slots = [0u8; MOST_SLOTS];
+    let mut positions = [0u8; MOST_SLOTS + 1];
     check_table(image, &mut slots, &mut positions)
 }

@@ -3,21 +3,27 @@ ghost use mathlib.Core.Path.{_≡_};
 ghost use Rattle.table.specs.Header.{headerCheck};
 use crate::place::Place;
 use crate::place::Verdict;
+use image::HEADER_LENGTH;
+use image::HEADER_ZERO;
+use image::MOST_SLOTS;
+use image::SLOT_COUNT;
+use image::SLOT_LENGTH;
+use image::VERSION;
 
 pub fn check_header(image: &[u8]) -> Verdict
     ensures { λ r. ⌜ r ≡ headerCheck (now (image .entry)) ⌝ }
 {
-    if image.len() < 4 {
+    if image.len() < HEADER_LENGTH {
         return Verdict::Failed(1, Place::Header);
     }
-    if !((image[0] == 1) & (image[3] == 0)) {
+    if !((image[VERSION] == 1) & (image[HEADER_ZERO] == 0)) {
         return Verdict::Failed(2, Place::Header);
     }
-    let n = image[1];
-    if !((1 <= n) & (n <= 64)) {
+    let n = image[SLOT_COUNT] as usize;
+    if !((1 <= n) & (n <= MOST_SLOTS)) {
         return Verdict::Failed(3, Place::Header);
     }
-    if image.len() != 4 + 16 * (n as usize) {
+    if image.len() != HEADER_LENGTH + SLOT_LENGTH * n {
         return Verdict::Failed(4, Place::Header);
     }
     Verdict::Passed

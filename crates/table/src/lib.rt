@@ -2,7 +2,6 @@
 // Each module has its rules in specs/ and its proofs in proofs/ under the same name.
 
 pub mod place; // where a refusal points, and what a group of checks finds
-pub mod image; // the bytes of the image by name
 pub mod header; // checks 1 to 4
 pub mod tag; // the form of a tag
 pub mod chain; // the walk, checks 5 and 6

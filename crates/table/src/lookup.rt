@@ -1,15 +1,18 @@
 // Find a tag, and show its slot: checks 50 and 51.
 ghost use mathlib.Core.Path.{_≡_};
 ghost use lib.ListN.{length};
+ghost use Rattle.image.specs.Image.{tagLength};
 ghost use Rattle.table.specs.Chain.{chainOf};
 ghost use Rattle.table.specs.Check.{Accepted};
-ghost use Rattle.table.specs.Lookup.{tagPosition, afterTable, findOf, showOf, FoundSlot};
+ghost use Rattle.table.specs.Lookup.{tagPosition, tagChecks, findOf, foundAnswer, showOf, FoundSlot};
 use crate::check::Checked;
 use crate::check::check_table;
-use crate::image::slot_start;
 use crate::place::Place;
 use crate::tag::tag_form;
 use crate::tag::tag_number;
+use image::MOST_SLOTS;
+use image::SLOT_LENGTH;
+use image::slot_start;
 
 // The position of a tag, or a refusal.
 pub enum Found {
@@ -24,14 +27,14 @@ pub struct Located {
 }
 
 // The position of a tag on the chain, 0 where no block has it.
-fn tag_position(
+pub fn tag_position(
     image: &[u8],
     tag: &[u8],
-    slots: &[u8; 64],
-    positions: &[u8; 65],
+    slots: &[u8; MOST_SLOTS],
+    positions: &[u8; MOST_SLOTS + 1],
     count: usize,
 ) -> usize
-    requires { ⌜ length (now tag) ≡ 8 ⌝ }
+    requires { ⌜ length (now tag) ≡ tagLength ⌝ }
     requires { ⌜ Accepted (now image) count (now slots) (now positions) ⌝ }
     ensures { λ r. ⌜ r ≡ tagPosition (now (image .entry)) (now (tag .entry)) 1 (chainOf (now (image .entry))) ⌝ }
 {
@@ -47,36 +50,24 @@ fn tag_position(
     0
 }
 
-// A refusal of the table checks, as find's answer.
-fn table_refusal(answer: Checked) -> Found
-    ensures { λ r. ⌜ r ≡ afterTable answer (Found.At 0) ⌝ }
+// Checks 50 and 51 of an accepted table, and the slot for show.
+fn locate_tag(
+    image: &[u8],
+    tag: &[u8],
+    slots: &[u8; MOST_SLOTS],
+    positions: &[u8; MOST_SLOTS + 1],
+    count: usize,
+) -> Located
+    requires { ⌜ Accepted (now image) count (now slots) (now positions) ⌝ }
+    ensures { λ r. ⌜ (r .found ≡ tagChecks (now (image .entry)) (now (tag .entry))) × FoundSlot (now (image .entry)) (r .found) (r .slot) ⌝ }
 {
-    match answer {
-        Checked::Blocks(_) => Found::At(0),
-        Checked::Refused(number, place) => Found::Refused(number, place),
-    }
-}
-
-// Find, with the slot for show.
-fn locate(image: &[u8], tag: &[u8]) -> Located
-    ensures { λ r. ⌜ (r .found ≡ findOf (now (image .entry)) (now (tag .entry))) × FoundSlot (now (image .entry)) (r .found) (r .slot) ⌝ }
-{
-    let mut slots = [0u8; 64];
-    let mut positions = [0u8; 65];
-    let answer = check_table(image, &mut slots, &mut positions);
-    let Checked::Blocks(count) = answer else {
-        return Located {
-            found: table_refusal(answer),
-            slot: 0,
-        };
-    };
     if !tag_form(tag) {
         return Located {
             found: Found::Refused(50, Place::Header),
             slot: 0,
         };
     }
-    let position = tag_position(image, tag, &slots, &positions, count);
+    let position = tag_position(image, tag, slots, positions, count);
     if position == 0 {
         return Located {
             found: Found::Refused(51, Place::Header),
@@ -90,9 +81,25 @@ fn locate(image: &[u8], tag: &[u8]) -> Located
     }
 }
 
+// Find, with the slot for show.
+fn locate(image: &[u8], tag: &[u8]) -> Located
+    ensures { λ r. ⌜ (r .found ≡ findOf (now (image .entry)) (now (tag .entry))) × FoundSlot (now (image .entry)) (r .found) (r .slot) ⌝ }
+{
+    let mut slots = [0u8; MOST_SLOTS];
+    let mut positions = [0u8; MOST_SLOTS + 1];
+    match check_table(image, &mut slots, &mut positions) {
+        Checked::Blocks(count) => locate_tag(image, tag, &slots, &positions, count),
+        Checked::Refused(number, place) => Located {
+            found: Found::Refused(number, place),
+            slot: 0,
+        },
+    }
+}
+
 // The position of a tag.
 pub fn find(image: &[u8], tag: &[u8]) -> Found
-    ensures { λ r. ⌜ r ≡ findOf (now (image .entry)) (now (tag .entry)) ⌝ }
+    ensures answer { λ r. ⌜ r ≡ findOf (now (image .entry)) (now (tag .entry)) ⌝ }
+    ensures numbers { λ r. ⌜ foundAnswer r ≡ foundAnswer (findOf (now (image .entry)) (now (tag .entry))) ⌝ }
 {
     let located = locate(image, tag);
     located.found
@@ -109,6 +116,6 @@ pub fn show<'a, 'b>(image: &'a [u8], tag: &'b [u8]) -> &'a [u8]
         return &image[0..0];
     };
     let start = slot_start(slot);
-    let end = start + 16;
+    let end = start + SLOT_LENGTH;
     &image[start..end]
 }

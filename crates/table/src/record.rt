@@ -3,20 +3,22 @@ ghost use mathlib.Core.Path.{_≡_};
 ghost use Prim.Native.Nat.{_+_, _<_, _≤_};
 ghost use lib.ListN.{take};
 ghost use mathlib.Core.Bool.{false};
-ghost use Rattle.table.specs.Image.{wireSlot, wireCode, tagOf, HasSlot};
+ghost use Rattle.image.specs.Image.{slotLength, wireSlot, wireCode, tagOf, HasSlot};
 ghost use Rattle.table.specs.Header.{Headed};
 ghost use Rattle.table.specs.Chain.{chainOf, Placed, Holds};
 ghost use Rattle.table.specs.Record.{kindOk, wireOk, abortOk, tagAmong, recordCheck, recordsCheck};
 ghost use Rattle.table.specs.Marks.{markPlace};
 use crate::chain::on_chain;
-use crate::image::ABORT_WIRE;
-use crate::image::KIND;
-use crate::image::START_WIRE;
-use crate::image::slot_byte;
 use crate::place::Place;
 use crate::place::Verdict;
 use crate::tag::slot_tag_form;
 use crate::tag::tag_number;
+use image::ABORT_WIRE;
+use image::KIND;
+use image::MOST_SLOTS;
+use image::START_WIRE;
+use image::ZERO;
+use image::slot_byte;
 
 // One of the fourteen kinds, and bytes 6 and 7 zero.
 fn kind_ok(image: &[u8], slot: u8) -> bool
@@ -24,13 +26,15 @@ fn kind_ok(image: &[u8], slot: u8) -> bool
     ensures { λ r. ⌜ r ≡ kindOk (now (image .entry)) slot ⌝ }
 {
     let kind = slot_byte(image, slot, KIND);
-    kind::is_kind(kind) & (slot_byte(image, slot, 6) == 0) & (slot_byte(image, slot, 7) == 0)
+    kind::is_kind(kind)
+        & (slot_byte(image, slot, ZERO) == 0)
+        & (slot_byte(image, slot, ZERO + 1) == 0)
 }
 
 // A wire from the frame with code 0, or from a slot on the chain with a code of bits 0, 1 and 7.
-fn wire_ok(image: &[u8], positions: &[u8; 65], slot: u8, wire: usize) -> bool
+fn wire_ok(image: &[u8], positions: &[u8; MOST_SLOTS + 1], slot: u8, wire: usize) -> bool
     requires { ⌜ HasSlot (now image) slot ⌝ }
-    requires { ⌜ wire < 15 ⌝ }
+    requires { ⌜ wire + 1 < slotLength ⌝ }
     requires { ⌜ Placed (chainOf (now image)) (now positions) ⌝ }
     ensures { λ r. ⌜ r ≡ wireOk (chainOf (now (image .entry))) (wireSlot (now (image .entry)) slot wire) (wireCode (now (image .entry)) slot wire) ⌝ }
 {
@@ -43,7 +47,7 @@ fn wire_ok(image: &[u8], positions: &[u8; 65], slot: u8, wire: usize) -> bool
 }
 
 // An abort wire as it should be, and none on a kind without abort.
-fn abort_ok(image: &[u8], positions: &[u8; 65], slot: u8) -> bool
+fn abort_ok(image: &[u8], positions: &[u8; MOST_SLOTS + 1], slot: u8) -> bool
     requires { ⌜ HasSlot (now image) slot ⌝ }
     requires { ⌜ Placed (chainOf (now image)) (now positions) ⌝ }
     ensures { λ r. ⌜ r ≡ abortOk (now (image .entry)) (chainOf (now (image .entry))) slot ⌝ }
@@ -55,7 +59,7 @@ fn abort_ok(image: &[u8], positions: &[u8; 65], slot: u8) -> bool
 }
 
 // Checks 7 to 10 of one record; `repeated`: its tag is that of an earlier block.
-fn check_record(image: &[u8], positions: &[u8; 65], repeated: bool, slot: u8) -> Verdict
+fn check_record(image: &[u8], positions: &[u8; MOST_SLOTS + 1], repeated: bool, slot: u8) -> Verdict
     requires { ⌜ HasSlot (now image) slot ⌝ }
     requires { ⌜ Placed (chainOf (now image)) (now positions) ⌝ }
     ensures { λ r. ⌜ r ≡ recordCheck (now (image .entry)) (chainOf (now (image .entry))) repeated slot ⌝ }
@@ -90,8 +94,8 @@ fn mark_place(tag: u64) -> usize
 // Whether a slot's tag is that of one of the first n blocks.
 fn is_among(
     image: &[u8],
-    slots: &[u8; 64],
-    positions: &[u8; 65],
+    slots: &[u8; MOST_SLOTS],
+    positions: &[u8; MOST_SLOTS + 1],
     count: usize,
     n: usize,
     slot: u8,
@@ -115,8 +119,8 @@ fn is_among(
 // The same, where no mark of the tag's place says that it is not.
 fn is_repeated(
     image: &[u8],
-    slots: &[u8; 64],
-    positions: &[u8; 65],
+    slots: &[u8; MOST_SLOTS],
+    positions: &[u8; MOST_SLOTS + 1],
     count: usize,
     n: usize,
     slot: u8,
@@ -134,7 +138,12 @@ fn is_repeated(
 }
 
 // Checks 7 to 10 of every record, each through all four before the next. A tag that was met has a mark in its place.
-pub fn check_records(image: &[u8], slots: &[u8; 64], positions: &[u8; 65], count: usize) -> Verdict
+pub fn check_records(
+    image: &[u8],
+    slots: &[u8; MOST_SLOTS],
+    positions: &[u8; MOST_SLOTS + 1],
+    count: usize,
+) -> Verdict
     requires { ⌜ Headed (now image) ⌝ }
     requires { ⌜ Holds (chainOf (now image)) count (now slots) (now positions) ⌝ }
     ensures { λ r. ⌜ r ≡ recordsCheck (now (image .entry)) ⌝ }

@@ -1,13 +1,16 @@
 // Check 11: the slots off the chain.
 ghost use mathlib.Core.Path.{_≡_};
-ghost use Rattle.table.specs.Image.{slotBytes, HasSlot};
+ghost use Rattle.image.specs.Image.{slotBytes, HasSlot};
 ghost use Rattle.table.specs.Header.{Headed};
 ghost use Rattle.table.specs.Chain.{chainOf, Placed};
 ghost use Rattle.table.specs.Spare.{allZero, spareOk, sparesCheck};
 use crate::chain::on_chain;
-use crate::image::slot_start;
 use crate::place::Place;
 use crate::place::Verdict;
+use image::MOST_SLOTS;
+use image::SLOT_COUNT;
+use image::TAG;
+use image::slot_start;
 
 // Whether all sixteen bytes of a slot are zero.
 fn slot_zero(image: &[u8], slot: u8) -> bool
@@ -15,11 +18,11 @@ fn slot_zero(image: &[u8], slot: u8) -> bool
     ensures { λ r. ⌜ r ≡ allZero (slotBytes (now (image .entry)) slot) ⌝ }
 {
     let start = slot_start(slot);
-    (words::u64_at(image, start) == 0) & (words::u64_at(image, start + 8) == 0)
+    (words::u64_at(image, start) == 0) & (words::u64_at(image, start + TAG) == 0)
 }
 
 // A slot on the chain, or sixteen zeros.
-fn spare_ok(image: &[u8], positions: &[u8; 65], slot: u8) -> bool
+fn spare_ok(image: &[u8], positions: &[u8; MOST_SLOTS + 1], slot: u8) -> bool
     requires { ⌜ HasSlot (now image) slot ⌝ }
     requires { ⌜ Placed (chainOf (now image)) (now positions) ⌝ }
     ensures { λ r. ⌜ r ≡ spareOk (now (image .entry)) (chainOf (now (image .entry))) slot ⌝ }
@@ -31,12 +34,12 @@ fn spare_ok(image: &[u8], positions: &[u8; 65], slot: u8) -> bool
 }
 
 // The slots from the lowest on.
-pub fn check_spares(image: &[u8], positions: &[u8; 65]) -> Verdict
+pub fn check_spares(image: &[u8], positions: &[u8; MOST_SLOTS + 1]) -> Verdict
     requires { ⌜ Headed (now image) ⌝ }
     requires { ⌜ Placed (chainOf (now image)) (now positions) ⌝ }
     ensures { λ r. ⌜ r ≡ sparesCheck (now (image .entry)) ⌝ }
 {
-    let n = image[1];
+    let n = image[SLOT_COUNT];
     let mut slot: u8 = 1;
     while slot <= n {
         if !spare_ok(image, positions, slot) {

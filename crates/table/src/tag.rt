@@ -3,10 +3,11 @@ ghost use mathlib.Core.Path.{_≡_};
 ghost use Prim.Native.Nat.{_≤_};
 ghost use lib.ListN.{length, drop};
 ghost use Rattle.words.specs.Word.{number};
-ghost use Rattle.table.specs.Image.{tagOf, HasSlot};
+ghost use Rattle.image.specs.Image.{tagOf, HasSlot};
 ghost use Rattle.table.specs.Tag.{tagChar, spaces, tagForm};
-use crate::image::TAG;
-use crate::image::slot_start;
+use image::TAG;
+use image::TAG_LENGTH;
+use image::slot_start;
 
 // A-Z and 0-9.
 fn tag_char(b: u8) -> bool
@@ -34,7 +35,7 @@ fn spaces_from(tag: &[u8], from: usize) -> bool
 pub fn tag_form(tag: &[u8]) -> bool
     ensures { λ r. ⌜ r ≡ tagForm (now (tag .entry)) ⌝ }
 {
-    if tag.len() != 8 {
+    if tag.len() != TAG_LENGTH {
         return false;
     }
     if !tag_char(tag[0]) {
@@ -56,7 +57,7 @@ pub fn slot_tag_form(image: &[u8], slot: u8) -> bool
     ensures { λ r. ⌜ r ≡ tagForm (tagOf (now (image .entry)) slot) ⌝ }
 {
     let start = slot_start(slot) + TAG;
-    let end = start + 8;
+    let end = start + TAG_LENGTH;
     tag_form(&image[start..end])
 }
 

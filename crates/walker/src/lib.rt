@@ -1,12 +1,11 @@
 // The chain's walker: the image and the current slot. Slot 0 stands for the header, which names the head.
 // `next_slot` does the work; `next` takes the walker apart for it, and `slot_after` makes one.
 ghost use mathlib.Core.Path.{_≡_};
-ghost use Rattle.walker.specs.Next.{nextSlot, Reaches};
-
-// The head's place in the header, and the next slot's in a slot.
-const HEAD: usize = 2;
-
-const NEXT: usize = 1;
+ghost use Rattle.image.specs.Image.{Reaches};
+ghost use Rattle.walker.specs.Next.{nextSlot};
+use image::HEAD;
+use image::NEXT;
+use image::slot_byte;
 
 pub struct Walker<'a> {
     pub image: &'a [u8],
@@ -21,7 +20,7 @@ pub fn next_slot(image: &[u8], slot: u8) -> u8
     if slot == 0 {
         return image[HEAD];
     }
-    image[4 + 16 * (slot as usize - 1) + NEXT]
+    slot_byte(image, slot, NEXT)
 }
 
 // The slot after the walker's: the walker is taken apart.

@@ -36,7 +36,8 @@ use denote.Triple.Table.{entered, cited}
 use denote.Triple.Walked.{says, needs, Stays, stay-none, stay-none-slice, walkOf, goes-none, goes-none-slice, Walks, ends-at, walked, walk-meets}
 use denote.Exit.{yes}
 use denote.Triple.Clauses.{ensured, lasts}
-use Rattle.walker.specs.Next.{nextSlot, Reaches}
+use Rattle.image.specs.Image.{Reaches}
+use Rattle.walker.specs.Next.{nextSlot}
 use Rattle.walker.specs.declared.Walker.{Walker}
 use Rattle.walker.proofs.Walker as T
 use Rattle.walker.proofs.Walker.Laws as T′

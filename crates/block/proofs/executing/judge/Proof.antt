@@ -3,7 +3,7 @@ use borrow.Author.Tests.{eq-eqb, ne-eqb}
 use mathlib.Core.Bool.{true, false}
 use mathlib.Core.Path.{_≡_, _∙_, ap, sym}
 use Rattle.clock.specs.Clock.{pastTimeOut}
-use Rattle.block.specs.Record.{Done, atStep, failedWith}
+use Rattle.block.specs.Record.{Done, TimedOut, atStep, failedWith}
 use Rattle.block.specs.Pass.{goOn, stop}
 use Rattle.block.specs.Executing.{judge}
 use borrow.Author.Needs.{needs}
@@ -42,7 +42,7 @@ returns-2 c =
     let w = a .w in
     let late : pastTimeOut (a .timeout) (w .timer) ≡ true = sym (c .before .before .before .past-time-out .ensures) ∙ c .before .before .if2 .taken in
     rw (ne-eqb _ _ (c .before .before .before .before .before .if1 .left), late)
-    (c .go-on2 .ensures ∙ ap (goOn (w .used)) (c .before .failed-with2 .ensures ∙ ap (failedWith 1) (c .before .before .before .before .before .before .before .before .timed .ensures)))
+    (c .go-on2 .ensures ∙ ap (goOn (w .used)) (c .before .failed-with2 .ensures ∙ ap (failedWith TimedOut) (c .before .before .before .before .before .before .before .before .timed .ensures)))
 
 at-step-requires : tie.Need-at-step-requires
 at-step-requires c κs = search needs

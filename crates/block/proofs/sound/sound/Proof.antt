@@ -18,6 +18,9 @@ done-sound-requires c κs = search needs
 error-sound-requires : tie.Need-error-sound-requires
 error-sound-requires c κs = search needs
 
+can-abort-requires : tie.Need-can-abort-requires
+can-abort-requires c κs = search needs
+
 executing-sound-requires-2 : tie.Need-executing-sound-requires-2
 executing-sound-requires-2 c κs = search needs
 
@@ -43,8 +46,10 @@ returns-4 c = let a = c .before .before .args in c .error-sound .ensures ∙ sym
 
 returns-5 : tie.Need-returns-5
 returns-5 c =
-    let a = c .before .before .args in
-    rw (c .executing-sound2 .ensures) (sym (at-step (a .kind) (a .r) Aborting (c .before .match .keys5) ∙ at-aborting (a .kind) (a .r)))
+    let arm = c .before .before in
+    let a = arm .before .args in
+    rw (c .before .can-abort .ensures, c .executing-sound2 .ensures)
+    (sym (at-step (a .kind) (a .r) Aborting (arm .match .keys5) ∙ at-aborting (a .kind) (a .r)))
 
 returns-6 : tie.Need-returns-6
 returns-6 c = let a = c .before .before .args in c .aborted-sound .ensures ∙ sym (at-step (a .kind) (a .r) Aborted (c .before .match .keys6))
@@ -66,6 +71,7 @@ sound-spec =
     executing-sound-requires
     done-sound-requires
     error-sound-requires
+    can-abort-requires
     executing-sound-requires-2
     aborted-sound-requires
     resetting-sound-requires

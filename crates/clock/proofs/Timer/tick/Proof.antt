@@ -1,15 +1,15 @@
--- `Timer::tick` meets its contract: the sum that is held at 2 ^ 32, by arithmetic.
+-- `Timer::tick` meets its contract: the sum that is held at its greatest value, by arithmetic.
 use borrow.Author.Needs.{needs}
 use native.Mathlib.Omega.{arith}
 use mathlib.Core.Path.{_≡_}
 use Prim.Native.Nat.{ℕ, _+_, min}
-use Rattle.clock.specs.Clock.{since, tick}
+use Rattle.clock.specs.Clock.{mostElapsed, since, tick}
 use Rattle.clock.specs.declared.Timer.{Timer}
 use Rattle.clock.proofs.Timer.tick.Statement.{statement}
 use Rattle.clock.proofs.Timer.tick.Tie as tie
 
 -- a timer that has the elapsed time of the definition
-ticked : (t : Timer) (reading n : ℕ) → n ≡ min (t .elapsed + since (t .last) reading) 4294967296 → _≡_ {A = Timer} (record { last = reading; elapsed = n }) (tick t reading)
+ticked : (t : Timer) (reading n : ℕ) → n ≡ min (t .elapsed + since (t .last) reading) mostElapsed → _≡_ {A = Timer} (record { last = reading; elapsed = n }) (tick t reading)
 unfolding tick
 ticked t reading n e = rw e
 

@@ -2,7 +2,7 @@
 use native.Mathlib.Omega.{arith}
 use mathlib.Core.List.{[], _∷_}
 use Rattle.layout.specs.Buffer.{byteAt}
-use Rattle.layout.specs.EntryLayout.{decodeEntry}
+use Rattle.layout.specs.EntryLayout.{entryOffset, decodeEntry}
 use borrow.Author.Needs.{needs}
 use Rattle.layout.proofs.entry.decode_entry.Statement.{statement}
 use Rattle.layout.proofs.entry.decode_entry.Tie as tie
@@ -56,9 +56,9 @@ returns c =
     let s = c .before .before .before .before .before .before .before .before .before .before .before .before .before .before .before .args .s .now in
     λ i. record {
       inputs = c .before .before .before .before .before .before .before .before .decode-inputs .ensures i;
-      count = byteAt s 1;
-      «abort_reply» = byteAt s 2;
-      «reset_reply» = byteAt s 3;
+      count = byteAt s (entryOffset .count);
+      «abort_reply» = byteAt s (entryOffset .abortReply);
+      «reset_reply» = byteAt s (entryOffset .resetReply);
       «abort_code» = c .before .before .before .before .u16-at .ensures i;
       job = c .before .before .before .u32-at .ensures i;
       limit = c .before .before .u32-at2 .ensures i;

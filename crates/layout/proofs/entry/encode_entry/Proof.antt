@@ -1,4 +1,4 @@
--- `entry::encode_entry` meets its contract: nothing of the array is left past 56 bytes.
+-- `entry::encode_entry` meets its contract: nothing of the array is left past the entry.
 use native.Mathlib.Omega.{arith}
 use mathlib.Core.Path.{_∙_}
 use mathlib.Core.List.{append-nil}

@@ -1,4 +1,4 @@
--- `entry::encode_head` meets its contract: the array is the first 24 bytes of the definition, written out.
+-- `entry::encode_head` meets its contract: the array is the head of the definition, written out.
 use native.Mathlib.Omega.{arith}
 use mathlib.Core.List.{[], _∷_}
 use lib.ListN.{getD}

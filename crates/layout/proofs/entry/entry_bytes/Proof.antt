@@ -26,7 +26,7 @@ returns-2 : tie.Need-returns-2
 returns-2 c =
     let s = c .before .before .before .before .before .before .args .s .now in
     let head : headTest s ≡ true = sym (c .before .before .before .before .head-fits .ensures) ∙ not-false _ (c .before .before .before .if1 .left) in
-    let first : pieceTest s 24 0 ≡ false = sym (c .before .piece-fits .ensures) ∙ not-true _ (c .if2 .taken) in
+    let first : pieceTest s 0 ≡ false = sym (c .before .piece-fits .ensures) ∙ not-true _ (c .if2 .taken) in
     rw first at (entry-pieces s head)
 
 piece-fits-requires-2 : tie.Need-piece-fits-requires-2
@@ -36,8 +36,8 @@ returns-3 : tie.Need-returns-3
 returns-3 c =
     let s = c .before .before .before .before .before .before .before .before .args .s .now in
     let head : headTest s ≡ true = sym (c .before .before .before .before .before .before .head-fits .ensures) ∙ not-false _ (c .before .before .before .before .before .if1 .left) in
-    let first : pieceTest s 24 0 ≡ true = sym (c .before .before .before .piece-fits .ensures) ∙ not-false _ (c .before .before .if2 .left) in
-    let second : pieceTest s 32 1 ≡ false = sym (c .before .piece-fits2 .ensures) ∙ not-true _ (c .if3 .taken) in
+    let first : pieceTest s 0 ≡ true = sym (c .before .before .before .piece-fits .ensures) ∙ not-false _ (c .before .before .if2 .left) in
+    let second : pieceTest s 1 ≡ false = sym (c .before .piece-fits2 .ensures) ∙ not-true _ (c .if3 .taken) in
     rw (first, second) at (entry-pieces s head)
 
 piece-fits-requires-3 : tie.Need-piece-fits-requires-3
@@ -47,9 +47,9 @@ returns-4 : tie.Need-returns-4
 returns-4 c =
     let s = c .before .before .before .before .before .before .before .before .before .before .args .s .now in
     let head : headTest s ≡ true = sym (c .before .before .before .before .before .before .before .before .head-fits .ensures) ∙ not-false _ (c .before .before .before .before .before .before .before .if1 .left) in
-    let first : pieceTest s 24 0 ≡ true = sym (c .before .before .before .before .before .piece-fits .ensures) ∙ not-false _ (c .before .before .before .before .if2 .left) in
-    let second : pieceTest s 32 1 ≡ true = sym (c .before .before .before .piece-fits2 .ensures) ∙ not-false _ (c .before .before .if3 .left) in
-    let third : pieceTest s 40 2 ≡ false = sym (c .before .piece-fits3 .ensures) ∙ not-true _ (c .if4 .taken) in
+    let first : pieceTest s 0 ≡ true = sym (c .before .before .before .before .before .piece-fits .ensures) ∙ not-false _ (c .before .before .before .before .if2 .left) in
+    let second : pieceTest s 1 ≡ true = sym (c .before .before .before .piece-fits2 .ensures) ∙ not-false _ (c .before .before .if3 .left) in
+    let third : pieceTest s 2 ≡ false = sym (c .before .piece-fits3 .ensures) ∙ not-true _ (c .if4 .taken) in
     rw (first, second, third) at (entry-pieces s head)
 
 piece-fits-requires-4 : tie.Need-piece-fits-requires-4
@@ -59,9 +59,9 @@ returns-5 : tie.Need-returns-5
 returns-5 c =
     let s = c .before .before .before .before .before .before .before .before .before .before .before .args .s .now in
     let head : headTest s ≡ true = sym (c .before .before .before .before .before .before .before .before .before .head-fits .ensures) ∙ not-false _ (c .before .before .before .before .before .before .before .before .if1 .left) in
-    let first : pieceTest s 24 0 ≡ true = sym (c .before .before .before .before .before .before .piece-fits .ensures) ∙ not-false _ (c .before .before .before .before .before .if2 .left) in
-    let second : pieceTest s 32 1 ≡ true = sym (c .before .before .before .before .piece-fits2 .ensures) ∙ not-false _ (c .before .before .before .if3 .left) in
-    let third : pieceTest s 40 2 ≡ true = sym (c .before .before .piece-fits3 .ensures) ∙ not-false _ (c .before .if4 .left) in
+    let first : pieceTest s 0 ≡ true = sym (c .before .before .before .before .before .before .piece-fits .ensures) ∙ not-false _ (c .before .before .before .before .before .if2 .left) in
+    let second : pieceTest s 1 ≡ true = sym (c .before .before .before .before .piece-fits2 .ensures) ∙ not-false _ (c .before .before .before .if3 .left) in
+    let third : pieceTest s 2 ≡ true = sym (c .before .before .piece-fits3 .ensures) ∙ not-false _ (c .before .if4 .left) in
     c .piece-fits4 .ensures ∙ rw (first, second, third) at (entry-pieces s head)
 
 pub entry-bytes-spec : {M : Type 1} → statement M

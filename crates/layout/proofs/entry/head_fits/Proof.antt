@@ -2,11 +2,10 @@
 use Prim.Native.Nat.{ℕ}
 use mathlib.Core.Bool.{_&&_}
 use mathlib.Core.Path.{ap, _∙_}
-use native.Mathlib.Omega.{arith}
 use lib.Dec.{eqb, ltb, leb}
-use Rattle.block.specs.Entry.{codeFits}
+use Rattle.block.specs.Entry.{Complete, ErrorReply, mostPieces, codeFits}
 use Rattle.layout.specs.Buffer.{byteAt}
-use Rattle.layout.specs.EntryLayout.{decodeEntry}
+use Rattle.layout.specs.EntryLayout.{entryOffset, decodeEntry}
 use Rattle.layout.proofs.CheckLaws.{head-form}
 use borrow.Author.Needs.{needs}
 use Rattle.layout.proofs.entry.head_fits.Statement.{statement}
@@ -27,11 +26,11 @@ shared-slice-read-replies-2 c = search needs
 shared-slice-read-replies-3 : tie.Need-shared-slice-read-replies-3
 shared-slice-read-replies-3 c = search needs
 
-shared-slice-read-code-fits : tie.Need-shared-slice-read-code-fits
-shared-slice-read-code-fits c = search needs
-
 u16-at-requires-2 : tie.Need-u16-at-requires-2
 u16-at-requires-2 c κs = search needs
+
+shared-slice-read-code-fits : tie.Need-shared-slice-read-code-fits
+shared-slice-read-code-fits c = search needs
 
 code-fits-requires : tie.Need-code-fits-requires
 code-fits-requires c κs = search needs
@@ -39,10 +38,15 @@ code-fits-requires c κs = search needs
 returns : tie.Need-returns
 unfolding decodeEntry
 returns c =
-    let s = c .before .before .before .before .before .before .before .before .before .args .s .now in
-    let unnamed = ap (λ (n : ℕ). ltb (byteAt s 0) 4 && eqb n 0) (c .before .before .before .before .before .before .u16-at .ensures) ∙ head-form s (omega arith) in
-    let code = c .code-fits .ensures ∙ ap (codeFits (byteAt s 2)) (c .before .u16-at2 .ensures) in
-    λ i. unnamed i && (leb (byteAt s 1) 4 && leb (byteAt s 2) 2 && leb (byteAt s 3) 1 && code i)
+    let coded = c .before .before in
+    let formed = coded .before .before .before .before in
+    let start = formed .before .before .before in
+    let s = start .args .s .now in
+    let abortReply = byteAt s (entryOffset .abortReply) in
+    let unnamed = ap (λ (n : ℕ). ltb (byteAt s (entryOffset .inputs)) 4 && eqb n 0) (formed .u16-at .ensures) ∙ head-form s (start .pre) in
+    let code = c .code-fits .ensures ∙ ap (codeFits abortReply) (coded .u16-at2 .ensures) in
+    λ i. unnamed i
+    && (leb (byteAt s (entryOffset .count)) mostPieces && leb abortReply ErrorReply && leb (byteAt s (entryOffset .resetReply)) Complete && code i)
 
 pub head-fits-spec : {M : Type 1} → statement M
 head-fits-spec =
@@ -53,7 +57,7 @@ head-fits-spec =
     shared-slice-read-replies
     shared-slice-read-replies-2
     shared-slice-read-replies-3
-    shared-slice-read-code-fits
     u16-at-requires-2
+    shared-slice-read-code-fits
     code-fits-requires
     returns)

@@ -1,8 +1,8 @@
--- `entry::put_piece` meets its contract: eight bytes copied to the front of the part from `at` on.
+-- `entry::put_piece` meets its contract: the bytes copied to the front of the part from `at` on.
 use native.Mathlib.Omega.{arith}
 use mathlib.Core.Path.{refl}
 use Rattle.words.specs.Word.{bytes}
-use Rattle.layout.specs.EntryLayout.{encodePiece}
+use Rattle.layout.specs.EntryLayout.{pieceLength, encodePiece}
 use Rattle.layout.proofs.BufferLaws.{put-front}
 use borrow.Author.Needs.{needs}
 use Rattle.layout.proofs.entry.put_piece.Statement.{statement}
@@ -35,7 +35,7 @@ returns c =
     let a = c .before .before .before .before .before .before .before .args in
     let e = c .before .before .before .before .before .encode-piece .ensures in
     let h = c .before .before .copy .ensures .1 in
-    put-front (a .at) 8 (a .s .now) (encodePiece (a .p)) (c .before .before .copy .last .1 .0) refl (rw e at h)
+    put-front (a .at) pieceLength (a .s .now) (encodePiece (a .p)) (c .before .before .copy .last .1 .0) refl (rw e at h)
 
 pub put-piece-spec : {M : Type 1} → statement M
 put-piece-spec =

@@ -1,6 +1,7 @@
--- `event::put_event` meets its contract: eight bytes copied to the front of the part from `at` on.
+-- `event::put_event` meets its contract: the bytes copied to the front of the part from `at` on.
 use native.Mathlib.Omega.{arith}
 use mathlib.Core.Path.{refl}
+use Rattle.layout.specs.Buffer.{eventLength}
 use Rattle.layout.specs.EventLayout.{encodeEvent}
 use Rattle.words.specs.Word.{bytes}
 use Rattle.layout.proofs.BufferLaws.{put-front}
@@ -35,7 +36,7 @@ returns c =
     let a = c .before .before .before .before .before .before .before .args in
     let e = c .before .before .before .before .before .encode-event .ensures in
     let h = c .before .before .copy .ensures .1 in
-    put-front (a .at) 8 (a .journal .now) (encodeEvent (a .position) (a .v)) (c .before .before .copy .last .1 .0) refl (rw e at h)
+    put-front (a .at) eventLength (a .journal .now) (encodeEvent (a .position) (a .v)) (c .before .before .copy .last .1 .0) refl (rw e at h)
 
 pub put-event-spec : {M : Type 1} → statement M
 put-event-spec =

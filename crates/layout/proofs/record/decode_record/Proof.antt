@@ -1,7 +1,7 @@
 -- `record::decode_record` meets its contract, field by field.
 use native.Mathlib.Omega.{arith}
 use Rattle.layout.specs.Buffer.{byteAt}
-use Rattle.layout.specs.RecordLayout.{decodeRecord}
+use Rattle.layout.specs.RecordLayout.{recordOffset, decodeRecord}
 use lib.Dec.{eqb}
 use borrow.Author.Needs.{needs}
 use Rattle.layout.proofs.record.decode_record.Statement.{statement}
@@ -42,9 +42,9 @@ unfolding decodeRecord
 returns c =
     let s = c .before .before .before .before .before .before .before .before .before .before .before .args .s .now in
     λ i. record {
-      step = byteAt s 0;
+      step = byteAt s (recordOffset .step);
       flags = c .before .before .before .before .before .before .before .flags-of .ensures i;
-      request = eqb (byteAt s 2) 1;
+      request = eqb (byteAt s (recordOffset .request)) 1;
       job = c .before .before .before .before .before .u32-at .ensures i;
       code = c .before .before .before .before .u16-at .ensures i;
       limit = c .before .before .before .u32-at2 .ensures i;

@@ -1,6 +1,7 @@
--- `record::put_record` meets its contract: 32 bytes copied to the front of the part from `at` on.
+-- `record::put_record` meets its contract: the bytes copied to the front of the part from `at` on.
 use native.Mathlib.Omega.{arith}
 use mathlib.Core.Path.{refl}
+use Rattle.layout.specs.Buffer.{recordLength}
 use Rattle.layout.specs.RecordLayout.{encodeRecord}
 use Rattle.words.specs.Word.{bytes}
 use Rattle.layout.proofs.BufferLaws.{put-front}
@@ -35,7 +36,7 @@ returns c =
     let a = c .before .before .before .before .before .before .before .args in
     let e = c .before .before .before .before .before .encode-record .ensures in
     let h = c .before .before .copy .ensures .1 in
-    put-front (a .at) 32 (a .s .now) (encodeRecord (a .r)) (c .before .before .copy .last .1 .0) refl (rw e at h)
+    put-front (a .at) recordLength (a .s .now) (encodeRecord (a .r)) (c .before .before .copy .last .1 .0) refl (rw e at h)
 
 pub put-record-spec : {M : Type 1} → statement M
 put-record-spec =

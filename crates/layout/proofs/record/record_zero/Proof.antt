@@ -1,4 +1,5 @@
--- `record::record_zero` meets its contract: four numbers of eight bytes.
+-- `record::record_zero` meets its contract: one number is four of eight bytes each.
+use Rattle.layout.proofs.CheckLaws.{words-zero}
 use borrow.Author.Needs.{needs}
 use Rattle.layout.proofs.record.record_zero.Statement.{statement}
 use Rattle.layout.proofs.record.record_zero.Tie as tie
@@ -16,7 +17,13 @@ u64-at-requires-4 : tie.Need-u64-at-requires-4
 u64-at-requires-4 c κs = search needs
 
 returns : tie.Need-returns
-returns c = rw (c .before .before .before .u64-at .ensures, c .before .before .u64-at2 .ensures, c .before .u64-at3 .ensures, c .u64-at4 .ensures)
+returns c =
+    let third = c .before in
+    let second = third .before in
+    let first = second .before in
+    let start = first .before .before in
+    rw (first .u64-at .ensures, second .u64-at2 .ensures, third .u64-at3 .ensures, c .u64-at4 .ensures)
+    (words-zero (start .args .s .now) (start .pre))
 
 pub record-zero-spec : {M : Type 1} → statement M
 record-zero-spec =

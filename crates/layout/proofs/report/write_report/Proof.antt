@@ -1,4 +1,4 @@
--- `report::write_report` meets its contract: the twelve bytes copied to the front.
+-- `report::write_report` meets its contract: the bytes copied to the front.
 use native.Mathlib.Omega.{arith}
 use Rattle.layout.specs.ReportLayout.{encodeReport}
 use Rattle.words.specs.Word.{bytes}

@@ -2,7 +2,7 @@
 use mathlib.Core.Path.{refl, sym, ap, _∙_}
 use mathlib.Core.Logic.{inr}
 use native.Mathlib.Omega.{arith}
-use Rattle.table.specs.Image.{abortWire}
+use Rattle.image.specs.Image.{abortWire}
 use Rattle.table.proofs.HeldLaws.{held-has, held-block, held-source}
 use Rattle.table.specs.Blocks.{Block, blockIn}
 use Rattle.table.proofs.blocks.abort_wire.Statement.{statement}

@@ -4,7 +4,7 @@ use native.Mathlib.Omega.{arith}
 use lib.ListN.{getD}
 use borrow.Author.Needs.{needs}
 use borrow.Author.Tests.{eq-eqb, ne-eqb}
-use Rattle.table.specs.Image.{wireSlot}
+use Rattle.image.specs.Image.{wireSlot}
 use Rattle.table.specs.Chain.{chainOf, positionOf}
 use Rattle.table.proofs.blocks.wire_at.Statement.{statement}
 use Rattle.table.proofs.blocks.wire_at.Tie as tie

@@ -3,7 +3,7 @@ use Prim.Native.Nat.{_-_}
 use mathlib.Core.Path.{_≡_, refl, _∙_}
 use native.Mathlib.Omega.{arith}
 use borrow.Author.Tests.{ne-eqb}
-use Rattle.table.specs.Image.{slotCount, headSlot, nextOf}
+use Rattle.image.specs.Image.{slotCount, headSlot, nextOf}
 use Rattle.table.proofs.ChainLaws.{Walking, walking-start, walking-ends, walking-above, walking-again, walking-room, walking-onward, stopped-walk}
 use Rattle.table.proofs.chain.walk.Statement.{statement}
 use Rattle.table.proofs.chain.walk.Tie as tie

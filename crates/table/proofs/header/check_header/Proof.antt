@@ -1,22 +1,45 @@
 -- `header::check_header` meets its contract: each return is where the tests before it lead.
+use Prim.Native.Nat.{ℕ}
 use mathlib.Core.Path.{_≡_}
+use mathlib.Core.List.{List}
 use mathlib.Core.Bool.{true, false, _&&_}
 use native.Mathlib.Omega.{arith}
-use lib.ListN.{length, getD}
+use lib.ListN.{length}
 use borrow.Author.Needs.{needs}
 use borrow.Author.Tests.{le-leb, lt-leb, eq-eqb, ne-eqb, not-true, not-false}
 use lib.Dec.{eqb, leb}
 use Rattle.membership.specs.Membership.{within}
-use Rattle.table.specs.Image.{version, slotCount}
+use Rattle.image.specs.Image.{headerLength, mostSlots, version, slotCount, headerZero}
 use Rattle.table.specs.Header.{headerCheck}
 use Rattle.table.proofs.header.check_header.Statement.{statement}
 use Rattle.table.proofs.header.check_header.Tie as tie
 
+-- the image
+abbrev image : tie.Start → List ℕ
+image p = p .args .image .now
+
+-- four bytes and more
+abbrev long : (p : tie.Else1) → leb headerLength (length (image (p .before))) ≡ true
+long p = le-leb _ _ (p .if1 .left)
+
+-- the test of the length, from those of version and N
+abbrev from-version : tie.After-shared-slice-known2 → tie.Else1
+from-version p = p .before .before
+
+abbrev from-count : tie.After-shared-slice-known3 → tie.Else2
+from-count p = p .before
+
+-- version and byte 3 as they should be, and N
+abbrev versioned : (p : tie.Else2) → let s = image (from-version (p .before) .before) in eqb (version s) 1 && eqb (headerZero s) 0 ≡ true
+versioned p = not-false _ (p .if2 .left)
+
+abbrev counted : (p : tie.Else3) → within 1 mostSlots (slotCount (image (from-version (from-count (p .before) .before) .before))) ≡ true
+counted p = not-false _ (p .if3 .left)
+
 returns : tie.Need-returns
 unfolding headerCheck
 returns c =
-    let s = c .before .args .image .now in
-    let short : leb 4 (length s) ≡ false = lt-leb 4 (length s) (c .if1 .taken) in
+    let short : leb headerLength (length (image (c .before))) ≡ false = lt-leb _ _ (c .if1 .taken) in
     simp short
 
 shared-slice-read-if2 : tie.Need-shared-slice-read-if2
@@ -28,23 +51,24 @@ shared-slice-read-if2-2 c = search needs
 returns-2 : tie.Need-returns-2
 unfolding headerCheck
 returns-2 c =
-    let s = c .before .before .before .before .args .image .now in
-    let t : eqb (version s) 1 && eqb (getD s 3 0) 0 ≡ false = not-true _ (c .if2 .taken) in
-    simp (le-leb _ _ (c .before .before .before .if1 .left), t)
+    let p = from-version (c .before) in
+    let s = image (p .before) in
+    let t : eqb (version s) 1 && eqb (headerZero s) 0 ≡ false = not-true _ (c .if2 .taken) in
+    simp (long p, t)
 
 shared-slice-read-n : tie.Need-shared-slice-read-n
 shared-slice-read-n c = search needs
 
+cast-n : tie.Need-cast-n
+cast-n c = omega (arith, c .shared-slice-known3 .given 1)
+
 returns-3 : tie.Need-returns-3
 unfolding headerCheck
 returns-3 c =
-    let s = c .before .before .before .before .before .before .args .image .now in
-    let t : eqb (version s) 1 && eqb (getD s 3 0) 0 ≡ true = not-false _ (c .before .before .if2 .left) in
-    let n : within 1 64 (slotCount s) ≡ false = not-true _ (c .if3 .taken) in
-    simp (le-leb _ _ (c .before .before .before .before .before .if1 .left), t, n)
-
-cast-if4 : tie.Need-cast-if4
-cast-if4 c = omega (arith, c .before .shared-slice-known3 .given 1)
+    let q = from-count (c .before) in
+    let p = from-version (q .before) in
+    let n : within 1 mostSlots (slotCount (image (p .before))) ≡ false = not-true _ (c .if3 .taken) in
+    simp (long p, versioned q, n)
 
 mul-if4 : tie.Need-mul-if4
 mul-if4 c = omega (arith, c .before .shared-slice-known3 .given 1)
@@ -55,18 +79,14 @@ add-if4 c = omega (arith, c .before .shared-slice-known3 .given 1)
 returns-4 : tie.Need-returns-4
 unfolding headerCheck
 returns-4 c =
-    let s = c .before .before .before .before .before .before .before .args .image .now in
-    let t : eqb (version s) 1 && eqb (getD s 3 0) 0 ≡ true = not-false _ (c .before .before .before .if2 .left) in
-    let n : within 1 64 (slotCount s) ≡ true = not-false _ (c .before .if3 .left) in
-    simp (le-leb _ _ (c .before .before .before .before .before .before .if1 .left), t, n, ne-eqb _ _ (c .if4 .taken))
+    let q = from-count (c .before .before) in
+    simp (long (from-version (q .before)), versioned q, counted (c .before), ne-eqb _ _ (c .if4 .taken))
 
 returns-5 : tie.Need-returns-5
 unfolding headerCheck
 returns-5 c =
-    let s = c .before .before .before .before .before .before .before .args .image .now in
-    let t : eqb (version s) 1 && eqb (getD s 3 0) 0 ≡ true = not-false _ (c .before .before .before .if2 .left) in
-    let n : within 1 64 (slotCount s) ≡ true = not-false _ (c .before .if3 .left) in
-    simp (le-leb _ _ (c .before .before .before .before .before .before .if1 .left), t, n, eq-eqb _ _ (c .if4 .left))
+    let q = from-count (c .before .before) in
+    simp (long (from-version (q .before)), versioned q, counted (c .before), eq-eqb _ _ (c .if4 .left))
 
 pub check-header-spec : {M : Type 1} → statement M
 check-header-spec =
@@ -77,8 +97,8 @@ check-header-spec =
     shared-slice-read-if2-2
     returns-2
     shared-slice-read-n
+    cast-n
     returns-3
-    cast-if4
     mul-if4
     add-if4
     returns-4

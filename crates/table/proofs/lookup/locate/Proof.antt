@@ -1,73 +1,60 @@
--- `lookup::locate` meets its contract: the table checks, then 50 and 51, then the slot at the position found.
+-- `lookup::locate` meets its contract: the table checks, and 50 and 51 of an accepted table.
+use Prim.Native.Nat.{ℕ}
 use mathlib.Core.Path.{refl, sym, _∙_}
-use native.Mathlib.Omega.{arith}
+use mathlib.Core.List.{List}
 use borrow.Author.Needs.{needs}
-use borrow.Author.Tests.{not-true, not-false}
 use Rattle.table.proofs.ChainLaws.{no-slots}
-use Rattle.table.proofs.TagLaws.{form-eight}
-use Rattle.table.proofs.SearchLaws.{find-refused, find-50, find-51, find-at, found-index, found-slot}
+use Rattle.table.proofs.SearchLaws.{find-refused, find-checks}
 use Rattle.table.proofs.lookup.locate.Statement.{statement}
 use Rattle.table.proofs.lookup.locate.Tie as tie
+
+-- the entry, from the table checks on
+abbrev entry : tie.After-check-table → tie.Start
+entry p = p .before .before .before .before .before
+
+abbrev image : tie.After-check-table → List ℕ
+image p = entry p .args .image .now
+
+abbrev tag : tie.After-check-table → List ℕ
+tag p = entry p .args .tag .now
+
+-- the table checks, from the two arms
+abbrev checked : tie.After-positions2 → tie.After-check-table
+checked p = p .before .before .before .before .before
+
+abbrev refused : tie.After-known-told2 → tie.After-check-table
+refused p = p .before .before .before
 
 check-table-requires : tie.Need-check-table-requires
 check-table-requires c κs = (refl, no-slots)
 
-enum-known-answer : tie.Need-enum-known-answer
-enum-known-answer c = search needs
+enum-known-count : tie.Need-enum-known-count
+enum-known-count c = search needs
 
-enum-told : tie.Need-enum-told
-enum-told c = search needs
+locate-tag-requires : tie.Need-locate-tag-requires
+locate-tag-requires c κs = checked c .check-table .ensures .1 _ (c .before .before .before .count .given .1)
 
-table-refusal-requires : tie.Need-table-refusal-requires
-table-refusal-requires c κs = search needs
+enum-known-number : tie.Need-enum-known-number
+enum-known-number c = search needs
 
 returns : tie.Need-returns
-returns c = find-refused (c .before .before .before .before .before .before .before .before .args .image .now) (c .before .before .before .before .before .before .before .before .args .tag .now) _ _ _ _ (c .before .before .before .check-table .ensures .0) (c .before .enum-told .given .1) (c .table-refusal .ensures)
-
-tag-form-requires : tie.Need-tag-form-requires
-tag-form-requires c κs = search needs
+returns c =
+    let p = checked (c .before) in
+    let e = sym (p .check-table .ensures .0) ∙ c .before .before .before .before .count .given .1 in
+    (c .locate-tag .ensures .0 ∙ find-checks (image p) (tag p) _ e, c .locate-tag .ensures .1)
 
 returns-2 : tie.Need-returns-2
-returns-2 c = (find-50 (c .before .before .before .before .before .before .before .before .before .before .args .image .now) (c .before .before .before .before .before .before .before .before .before .before .args .tag .now) _ (sym (c .before .before .before .before .before .check-table .ensures .0) ∙ c .before .before .before .answer .given .1) (sym (c .before .tag-form .ensures) ∙ not-true _ (c .if1 .taken)), tt)
-
-tag-position-requires : tie.Need-tag-position-requires
-tag-position-requires c κs =
-    (form-eight (c .before .before .before .before .before .before .before .before .before .before .before .before .args .tag .now) (sym (c .before .before .before .tag-form .ensures) ∙ not-false _ (c .before .before .if1 .left)), c .before .before .before .before .before .before .before .check-table .ensures .1 _ (c .before .before .before .before .before .answer .given .1))
-
-returns-3 : tie.Need-returns-3
-returns-3 c =
-    let f = sym (c .before .before .before .before .before .tag-form .ensures) ∙ not-false _ (c .before .before .before .before .if1 .left) in
-    (find-51 (c .before .before .before .before .before .before .before .before .before .before .before .before .before .before .args .image .now) (c .before .before .before .before .before .before .before .before .before .before .before .before .before .before .args .tag .now) _ _ (sym (c .before .before .before .before .before .before .before .before .before .check-table .ensures .0) ∙ c .before .before .before .before .before .before .before .answer .given .1) f (c .before .tag-position .ensures) (c .if2 .taken), tt)
-
-sub-i : tie.Need-sub-i
-sub-i c = search needs
-
-array-read-t23 : tie.Need-array-read-t23
-array-read-t23 c =
-    let ok = c .before .before .before .before .before .before .before .before .before .check-table .ensures .1 _ (c .before .before .before .before .before .before .before .answer .given .1) in
-    omega (arith, found-index (c .before .before .before .before .before .before .before .before .before .before .before .before .before .before .args .image .now) (c .before .before .before .before .before .before .before .before .before .before .before .before .before .before .args .tag .now) _ _ _ ok (c .before .tag-position .result) (c .before .tag-position .ensures) (c .if2 .left), ok .chain .few)
-
-returns-4 : tie.Need-returns-4
-returns-4 c =
-    let f = sym (c .before .before .before .before .before .tag-form .ensures) ∙ not-false _ (c .before .before .before .before .if1 .left) in
-    let ok = c .before .before .before .before .before .before .before .before .before .check-table .ensures .1 _ (c .before .before .before .before .before .before .before .answer .given .1) in (
-      find-at (c .before .before .before .before .before .before .before .before .before .before .before .before .before .before .args .image .now) (c .before .before .before .before .before .before .before .before .before .before .before .before .before .before .args .tag .now) _ _ (sym (c .before .before .before .before .before .before .before .before .before .check-table .ensures .0) ∙ c .before .before .before .before .before .before .before .answer .given .1) f (c .before .tag-position .ensures) (c .if2 .left),
-      found-slot (c .before .before .before .before .before .before .before .before .before .before .before .before .before .before .args .image .now) (c .before .before .before .before .before .before .before .before .before .before .before .before .before .before .args .tag .now) _ _ _ ok (c .before .tag-position .result) (c .before .tag-position .ensures) (c .if2 .left),
-    )
+returns-2 c =
+    let p = refused c in
+    (find-refused (image p) (tag p) _ _ (sym (p .check-table .ensures .0) ∙ c .before .number .given .1), tt)
 
 pub locate-spec : {M : Type 1} → statement M
 locate-spec =
     tie.close
     (tie.spec
     check-table-requires
-    enum-known-answer
-    enum-told
-    table-refusal-requires
+    enum-known-count
+    locate-tag-requires
+    enum-known-number
     returns
-    tag-form-requires
-    returns-2
-    tag-position-requires
-    returns-3
-    sub-i
-    array-read-t23
-    returns-4)
+    returns-2)

@@ -4,6 +4,7 @@ use mathlib.Core.Path.{_≡_, sym, ap, _∙_}
 use native.Mathlib.Omega.{arith}
 use lib.ListN.{take, drop}
 use borrow.Author.Needs.{needs}
+use Rattle.image.specs.Image.{slotLength}
 use Rattle.table.specs.Lookup.{showOf}
 use Rattle.table.proofs.SearchLaws.{slot-told, show-none, show-some}
 use Rattle.table.proofs.lookup.show.Statement.{statement}
@@ -55,8 +56,8 @@ returns-2 c =
     let t = c .before .before .before .before .before .before .before .args .tag .now in
     let start = c .before .slot-start .result in
     let i = slot-told s _ _ _ (c .before .before .enum-told .given .1) (c .before .before .before .before .locate .ensures .1) in
-    let sixteen : (start + 16) - start ≡ 16 = omega arith in
-    let shows : take 16 (drop start s) ≡ showOf s t = rw (c .before .slot-start .ensures) (show-some s t _ _ (sym (c .before .before .before .before .locate .ensures .0) ∙ c .before .before .enum-told .given .1) (i .0)) in
+    let sixteen : (start + slotLength) - start ≡ slotLength = omega arith in
+    let shows : take slotLength (drop start s) ≡ showOf s t = rw (c .before .slot-start .ensures) (show-some s t _ _ (sym (c .before .before .before .before .locate .ensures .0) ∙ c .before .before .enum-told .given .1) (i .0)) in
     ap (λ (n : ℕ). take n (drop start s)) sixteen ∙ shows
 
 pub show-spec : {M : Type 1} → statement M

@@ -6,7 +6,7 @@ use lib.ListN.{getD, take, drop}
 use Rattle.table.proofs.HeldLaws.{held-slot, held-has}
 use Rattle.words.specs.Word.{number}
 use lib.Seq.{take-all}
-use Rattle.table.specs.Image.{tagOf}
+use Rattle.image.specs.Image.{tagLength, tagOf}
 use Rattle.table.specs.Chain.{chainOf}
 use Rattle.table.proofs.SearchLaws.{Searching, searching-start, searching-found, searching-on, searching-end}
 use Rattle.table.proofs.lookup.tag_position.Statement.{statement}
@@ -24,7 +24,7 @@ u64-at-requires c κs = omega (arith, c .before .before .pre .0)
 loop-holds : tie.Need-loop-holds Inv-loop μ-loop
 loop-holds c =
     let t = c .before .before .before .args .tag .now in
-    let whole : take 8 (drop 0 t) ≡ t = take-all 8 t (omega (arith, c .before .before .before .pre .0)) in
+    let whole : take tagLength (drop 0 t) ≡ t = take-all tagLength t (omega (arith, c .before .before .before .pre .0)) in
     (c .u64-at .ensures ∙ ap number whole, searching-start _ _)
 
 element-copy-out-slot : tie.Need-element-copy-out-slot Inv-loop μ-loop

@@ -3,7 +3,7 @@ use mathlib.Core.Path.{_≡_, sym, _∙_}
 use mathlib.Core.Bool.{true, false}
 use borrow.Author.Needs.{needs}
 use Rattle.kind.specs.Kind.{hasAbort}
-use Rattle.table.specs.Image.{kindOf}
+use Rattle.image.specs.Image.{kindOf}
 use Rattle.table.proofs.record.abort_ok.Statement.{statement}
 use Rattle.table.proofs.record.abort_ok.Tie as tie
 

@@ -3,7 +3,7 @@ use mathlib.Core.Path.{_≡_, sym, _∙_}
 use mathlib.Core.Bool.{true, false}
 use borrow.Author.Needs.{needs}
 use borrow.Author.Tests.{not-true, not-false}
-use Rattle.table.specs.Image.{tagOf}
+use Rattle.image.specs.Image.{tagOf}
 use Rattle.table.specs.Tag.{tagForm}
 use Rattle.table.specs.Chain.{chainOf}
 use Rattle.table.specs.Record.{kindOk, startOk, abortOk, recordCheck}

@@ -1,11 +1,11 @@
 -- `record::check_records` meets its contract. The loop keeps `Recording`: the checks of the records from i on are all that are left.
-use Prim.Native.Nat.{_-_, _<_}
-use mathlib.Core.Path.{_≡_, refl, ap, _∙_}
+use Prim.Native.Nat.{_-_}
+use mathlib.Core.Path.{refl, ap, _∙_}
 use native.Mathlib.Omega.{arith}
 use borrow.Author.Needs.{needs}
 use Rattle.table.specs.Marks.{markPlace}
 use Rattle.table.proofs.ChainLaws.{slot-is, slot-has}
-use Rattle.table.proofs.RecordLaws.{Recording, markOf, recording-start, recording-end, recording-failed, recording-on, not-marked}
+use Rattle.table.proofs.RecordLaws.{Recording, recording-start, recording-end, recording-failed, recording-on, not-marked}
 use Rattle.table.proofs.record.check_records.Statement.{statement}
 use Rattle.table.proofs.record.check_records.Tie as tie
 

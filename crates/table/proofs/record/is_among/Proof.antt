@@ -5,7 +5,7 @@ use mathlib.Core.Logic.{⊎-elim}
 use native.Mathlib.Omega.{arith}
 use lib.ListN.{length, take}
 use Rattle.words.specs.Word.{Bytes}
-use Rattle.table.specs.Image.{tagOf}
+use Rattle.image.specs.Image.{tagOf}
 use Rattle.table.specs.Chain.{chainOf}
 use Rattle.table.specs.Record.{tagAmong}
 use Rattle.table.proofs.ChainLaws.{slot-is, slot-has}

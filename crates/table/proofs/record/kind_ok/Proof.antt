@@ -13,6 +13,9 @@ is-kind-requires c κs = search needs
 slot-byte-requires-2 : tie.Need-slot-byte-requires-2
 slot-byte-requires-2 c κs = search needs
 
+add-slot-byte : tie.Need-add-slot-byte
+add-slot-byte c = search needs
+
 slot-byte-requires-3 : tie.Need-slot-byte-requires-3
 slot-byte-requires-3 c κs = search needs
 
@@ -26,5 +29,6 @@ kind-ok-spec =
     slot-byte-requires
     is-kind-requires
     slot-byte-requires-2
+    add-slot-byte
     slot-byte-requires-3
     returns)

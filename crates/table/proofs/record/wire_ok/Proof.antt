@@ -3,7 +3,7 @@ use mathlib.Core.Path.{_≡_, sym, _∙_}
 use borrow.Author.Needs.{needs}
 use borrow.Author.Tests.{eq-eqb, ne-eqb}
 use Rattle.membership.specs.Membership.{among}
-use Rattle.table.specs.Image.{wireSlot}
+use Rattle.image.specs.Image.{wireSlot}
 use Rattle.table.specs.Chain.{chainOf}
 use Rattle.table.proofs.ChainLaws.{on-chain-is}
 use Rattle.table.proofs.record.wire_ok.Statement.{statement}

@@ -1,7 +1,7 @@
 -- `spare::slot_zero` meets its contract: sixteen zeros are two numbers 0.
 use mathlib.Core.Path.{sym}
 use borrow.Author.Needs.{needs}
-use Rattle.table.specs.Image.{slotStart}
+use Rattle.image.specs.Image.{slotStart}
 use Rattle.table.proofs.SpareLaws.{zero-sixteen}
 use Rattle.table.proofs.spare.slot_zero.Statement.{statement}
 use Rattle.table.proofs.spare.slot_zero.Tie as tie

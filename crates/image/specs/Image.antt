@@ -1,9 +1,15 @@
--- Document 01, "Table image": the bytes by name.
+-- Document 01, "Table image": lengths and bytes by name.
 use Prim.Native.Nat.{ℕ, _+_, _-_, _*_, _<_, _≤_}
 use mathlib.Core.List.{List}
 use lib.ListN.{length, getD, take, drop}
 
 -- "Header, 4 bytes: version 1; slot count N, 1 to 64; head slot, 0 to N; zero."
+abbrev pub headerLength : ℕ
+headerLength = 4
+
+abbrev pub mostSlots : ℕ
+mostSlots = 64
+
 abbrev pub version : List ℕ → ℕ
 version image = getD image 0 0
 
@@ -13,12 +19,22 @@ slotCount image = getD image 1 0
 abbrev pub headSlot : List ℕ → ℕ
 headSlot image = getD image 2 0
 
+abbrev pub headerZero : List ℕ → ℕ
+headerZero image = getD image 3 0
+
 -- "Then N slots of 16 bytes, numbered from 1"
+abbrev pub slotLength : ℕ
+slotLength = 16
+
 abbrev pub slotStart : ℕ → ℕ
-slotStart slot = 4 + 16 * (slot - 1)
+slotStart slot = headerLength + slotLength * (slot - 1)
+
+-- "4 + 16 × N"
+abbrev pub imageLength : ℕ → ℕ
+imageLength n = headerLength + slotLength * n
 
 abbrev pub slotBytes : List ℕ → ℕ → List ℕ
-slotBytes image slot = take 16 (drop (slotStart slot) image)
+slotBytes image slot = take slotLength (drop (slotStart slot) image)
 
 abbrev pub slotByte : List ℕ → ℕ → ℕ → ℕ
 slotByte image slot b = getD image (slotStart slot + b) 0
@@ -43,9 +59,23 @@ wireSlot image slot wire = slotByte image slot wire
 abbrev pub wireCode : List ℕ → ℕ → ℕ → ℕ
 wireCode image slot wire = slotByte image slot (wire + 1)
 
+-- where the two zero bytes stand, and the tag
+abbrev pub zeroPlace : ℕ
+zeroPlace = 6
+
+abbrev pub tagPlace : ℕ
+tagPlace = 8
+
+abbrev pub tagLength : ℕ
+tagLength = 8
+
 abbrev pub tagOf : List ℕ → ℕ → List ℕ
-tagOf image slot = take 8 (drop (slotStart slot + 8) image)
+tagOf image slot = take tagLength (drop (slotStart slot + tagPlace) image)
+
+-- the image has the header and the slots up to this one; slot 0 stands for the header
+abbrev pub Reaches : List ℕ → ℕ → Type 0
+Reaches image slot = imageLength slot ≤ length image
 
 -- the image has all of this slot's bytes
 abbrev pub HasSlot : List ℕ → ℕ → Type 0
-HasSlot image slot = (0 < slot) × (4 + 16 * slot ≤ length image)
+HasSlot image slot = (0 < slot) × Reaches image slot

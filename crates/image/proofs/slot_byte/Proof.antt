@@ -1,10 +1,10 @@
--- `image::slot_byte` meets its contract: the slot begins where `slot_start` says.
+-- `slot_byte` meets its contract: the slot begins where `slot_start` says.
 use Prim.Native.Nat.{ℕ, _+_}
 use mathlib.Core.Path.{ap}
 use lib.ListN.{getD}
 use borrow.Author.Needs.{needs}
-use Rattle.table.proofs.image.slot_byte.Statement.{statement}
-use Rattle.table.proofs.image.slot_byte.Tie as tie
+use Rattle.image.proofs.slot_byte.Statement.{statement}
+use Rattle.image.proofs.slot_byte.Tie as tie
 
 slot-start-requires : tie.Need-slot-start-requires
 slot-start-requires c κs = search needs
