@@ -1,15 +1,7 @@
-/* A host box of a small gate: five lanes, eight scans and one that is turned back.
+/* A host box of a small gate: five lanes, eight scans and one that is turned back. It prints its story first.
  *
  * Build at the root of the repository, after `rt staticlib lane`:
  *     gcc -std=c99 -Wall -Wextra -Iinclude examples/gate_host.c target/staticlib/liblane.a -o target/gate_host
- *
- * What happens, by lane (the job number of a block is the truck's):
- *   LANE0  Execute drops while truck 7001 is read, and the job goes on; truck 7002 follows at once.
- *   LANEO  starts when LANE0 is done (a wire); its reply comes after the time-out.
- *   LANE1  nothing replies for three scans, then a late reply within the time-out.
- *   LANEI  is aborted.
- *   GATE   is enabled while LANEI is busy (a wire), so the abort withdraws its job.
- * The clock turns from 4,294,967,295 to 0 on the way.
  */
 
 #include "lane.h"
@@ -38,6 +30,11 @@ static const char *const step_names[] = {
     [LANE_STEP_DONE] = "Done",           [LANE_STEP_ERROR] = "Error",
     [LANE_STEP_ABORTING] = "Aborting",   [LANE_STEP_ABORTED] = "Aborted",
     [LANE_STEP_RESETTING] = "Resetting",
+};
+static const char *const reply_names[] = {
+    [LANE_REPLY_WORKING] = "working",
+    [LANE_REPLY_COMPLETE] = "complete",
+    [LANE_REPLY_ERROR] = "error",
 };
 static const char *const event_names[] = {
     [LANE_EVENT_START] = "start",         [LANE_EVENT_DONE] = "done",
@@ -73,12 +70,13 @@ struct entry {
     uint8_t reset_reply;
     uint32_t truck;
     uint32_t time_out;
+    int aborts; /* whether the reply is one to an abort */
 };
 
 /* An entry with one piece, and one in which nothing replied; the reset is complete at once. */
-#define REPLIES(inputs, reply, truck, time_out) {inputs, 1, reply, WORKING, COMPLETE, truck, time_out}
-#define SILENT(inputs, truck, time_out) {inputs, 0, WORKING, WORKING, COMPLETE, truck, time_out}
-#define ABORTS(inputs, abort_reply, truck) {inputs, 0, WORKING, abort_reply, COMPLETE, truck, 0}
+#define REPLIES(inputs, reply, truck, time_out) {inputs, 1, reply, WORKING, COMPLETE, truck, time_out, 0}
+#define SILENT(inputs, truck, time_out) {inputs, 0, WORKING, WORKING, COMPLETE, truck, time_out, 0}
+#define ABORTS(inputs, abort_reply, truck) {inputs, 0, WORKING, abort_reply, COMPLETE, truck, 0, 1}
 
 static const struct entry story[SCANS][LANES] = {
     /*   LANE0                            LANEO                              LANE1
@@ -107,6 +105,7 @@ static const struct entry story[SCANS][LANES] = {
 struct box {
     uint8_t image[LANE_HEADER_BYTES + LANE_SLOT_BYTES * SLOTS];
     uint8_t state[LANE_RECORD_BYTES * LANES];
+    uint8_t before[LANE_RECORD_BYTES * LANES]; /* the state before the scan, for the print */
     uint8_t frame[LANE_ENTRY_BYTES * LANES];
     uint8_t report[LANE_REPORT_BYTES * LANES];
     uint8_t journal[2 * LANE_EVENT_BYTES * LANES];
@@ -115,30 +114,16 @@ struct box {
 /* An event and the scan that wrote it. */
 struct logged {
     int scan;
-    uint8_t bytes[LANE_EVENT_BYTES];
+    struct lane_event event;
 };
-
-static void put32(uint8_t *to, uint32_t value)
-{
-    for (int i = 0; i < 4; i++)
-        to[i] = (uint8_t)(value >> 8 * i);
-}
-
-static unsigned get16(const uint8_t *from) { return from[0] | (unsigned)from[1] << 8; }
-
-static unsigned long get32(const uint8_t *from)
-{
-    return get16(from) | (unsigned long)get16(from + 2) << 16;
-}
 
 /* Says which check refused a call, where, and why. */
 static void print_refusal(FILE *to, const char *call, uint64_t answer)
 {
-    unsigned number = (unsigned)lane_refusal_number(answer);
-    unsigned place = (unsigned)lane_refusal_place(answer);
-    fprintf(to, "%s: refused %u", call, number);
-    if (place != 0)
-        fprintf(to, " at %s %u", number <= 11 ? "slot" : "position", place);
+    enum lane_place sort = lane_refusal_place_sort(answer);
+    fprintf(to, "%s: refused %u", call, (unsigned)lane_refusal_number(answer));
+    if (sort != LANE_PLACE_NONE)
+        fprintf(to, " at %s %u", lane_place_text(sort), (unsigned)lane_refusal_place(answer));
     fprintf(to, ": %s\n", lane_refusal_text(answer));
 }
 
@@ -163,72 +148,118 @@ static void expect(int holds, const char *what)
 
 static void write_table(uint8_t *image)
 {
-    image[LANE_AT_HEADER_VERSION] = 1;
-    image[LANE_AT_HEADER_SLOTS] = SLOTS;
-    image[LANE_AT_HEADER_HEAD] = blocks[0].slot;
+    lane_put_header(image, SLOTS, blocks[0].slot);
     for (int i = 0; i < LANES; i++) {
         const struct block *block = &blocks[i];
-        uint8_t *slot = image + LANE_HEADER_BYTES + LANE_SLOT_BYTES * (block->slot - 1);
-        slot[LANE_AT_SLOT_KIND] = block->kind;
-        slot[LANE_AT_SLOT_NEXT] = block->next;
-        slot[LANE_AT_SLOT_START_WIRE] = block->start_slot;
-        slot[LANE_AT_SLOT_START_CODE] = block->start_code;
-        memcpy(slot + LANE_AT_SLOT_TAG, block->tag, LANE_TAG_BYTES);
+        struct lane_slot slot = {.kind = block->kind, .next = block->next};
+        slot.start_wire = block->start_slot;
+        slot.start_code = block->start_code;
+        memcpy(slot.tag, block->tag, LANE_TAG_BYTES);
+        lane_put_slot(image, block->slot, &slot);
     }
 }
 
-static void write_entry(uint8_t *to, const struct entry *entry, uint32_t clock)
+static void write_entry(uint8_t *frame, uint32_t position, const struct entry *entry, uint32_t clock)
 {
-    memset(to, 0, LANE_ENTRY_BYTES);
-    to[LANE_AT_ENTRY_INPUTS] = entry->inputs;
-    to[LANE_AT_ENTRY_COUNT] = entry->pieces;
-    to[LANE_AT_ENTRY_ABORT_REPLY] = entry->abort_reply;
-    to[LANE_AT_ENTRY_RESET_REPLY] = entry->reset_reply;
-    put32(to + LANE_AT_ENTRY_JOB, entry->truck);
-    put32(to + LANE_AT_ENTRY_TIME_OUT, entry->time_out);
-    put32(to + LANE_AT_ENTRY_CLOCK, clock);
-    if (entry->pieces != 0) {
-        uint8_t *piece = to + LANE_AT_ENTRY_PIECES;
-        piece[LANE_AT_PIECE_REPLY] = entry->reply;
-        put32(piece + LANE_AT_PIECE_CLOCK, clock + PIECE);
-    }
+    struct lane_entry to = {
+        .inputs = entry->inputs,
+        .count = entry->pieces,
+        .abort_reply = entry->abort_reply,
+        .reset_reply = entry->reset_reply,
+        .job = entry->truck,
+        .time_out = entry->time_out,
+        .clock = clock,
+        .pieces = {{.reply = entry->reply, .clock = clock + PIECE}},
+    };
+    lane_put_entry(frame, position, &to);
+}
+
+static void print_story(void)
+{
+    printf("What happens. The job number of a block is the truck's.\n"
+           "LANE0  Execute drops while truck 7001 is read; the job goes on, 7002 follows.\n"
+           "LANEO  starts when LANE0 is done (a wire); its reply comes after the time-out.\n"
+           "LANE1  nothing replies for three scans, then a reply within the time-out.\n"
+           "LANEI  is aborted, and its devices need until the next scan for that.\n"
+           "GATE   is enabled while LANEI is busy (a wire): the abort withdraws its job.\n\n");
 }
 
 static void print_legend(void)
 {
-    printf("\nclock: in microseconds; it turns from 4294967295 to 0, as it does before scan 4.\n"
-           "flags: B busy, D done, E error, A aborted.\n"
-           "passes: how many steps the call of a block went through, the last included.\n"
-           "pieces: how many replies of its action the call took.\n"
-           "code: why a job failed; %d is the time-out, any other comes with the reply.\n\n",
+    printf("\nS, A: the start and the abort input as the call read it, from the frame or\n"
+           "  from a wire; - the block has no abort input.\n"
+           "reply: what its devices answered; aborting and aborted: to an abort; - nothing.\n"
+           "BDEA: the flags busy, done, error, aborted.\n"
+           "pass: steps that the call went through, the last included; used: replies taken.\n"
+           "elapsed/time-out: microseconds since the job's start, and those allowed, if any.\n"
+           "code: why a job failed; %d is elapsed past the time-out, even if complete.\n"
+           "clock: in microseconds; it wraps from 4294967295 to 0 before scan 4.\n\n"
+           "lane   S A  reply     step       BDEA  pass  used  elapsed/time-out  code truck\n",
            LANE_CODE_TIME_OUT);
 }
 
-static void print_report(int scan, uint32_t clock, const uint8_t *report)
+/* The position of the block in a slot. */
+static uint32_t position_of(const uint8_t *image, uint32_t slot)
 {
-    for (int i = 0; i < LANES; i++, report += LANE_REPORT_BYTES) {
-        uint8_t flags = report[LANE_AT_REPORT_FLAGS];
-        if (i == 0)
-            printf("%4d %11lu", scan, (unsigned long)clock);
-        else
-            printf("%16s", "");
-        printf("  %.8s %-9s  %c%c%c%c %7u %7u %6u %7lu\n", blocks[i].tag,
-               step_names[report[LANE_AT_REPORT_STEP]], flags & LANE_FLAG_BUSY ? 'B' : '.',
-               flags & LANE_FLAG_DONE ? 'D' : '.', flags & LANE_FLAG_ERROR ? 'E' : '.',
-               flags & LANE_FLAG_ABORTED ? 'A' : '.', (unsigned)report[LANE_AT_REPORT_PASSES],
-               (unsigned)report[LANE_AT_REPORT_PIECES], get16(report + LANE_AT_REPORT_CODE),
-               get32(report + LANE_AT_REPORT_JOB));
-    }
+    uint32_t position = 1;
+    while (lane_slot_at(image, position) != slot)
+        position++;
+    return position;
+}
+
+/* An input as the call of a block read it: the frame's bit, or the flag that its wire reads. That is a flag of
+ * this scan if the block is an earlier one, else of the scan before. */
+static int input_read(const struct box *box, uint32_t position, int bit, uint8_t wire, uint8_t code)
+{
+    if (wire == 0)
+        return (lane_get_entry(box->frame, position).inputs & bit) != 0;
+    uint32_t from = position_of(box->image, wire);
+    uint8_t flags = from < position ? lane_get_report(box->report, from).flags
+                                    : lane_get_record(box->before, from).flags;
+    int flag = flags >> code % LANE_WIRE_INVERTED & 1;
+    return code < LANE_WIRE_INVERTED ? flag : !flag;
+}
+
+static int has_abort(uint8_t kind) { return LANE_KIND_ETRIG_A <= kind && kind <= LANE_KIND_ETRIG_A_TI_TO; }
+
+/* The inputs of a block's call and the reply that it was given. */
+static void print_causes(const struct box *box, uint32_t position, const struct entry *entry)
+{
+    struct lane_slot slot = lane_get_slot(box->image, lane_slot_at(box->image, position));
+    int start = input_read(box, position, LANE_INPUT_START, slot.start_wire, slot.start_code);
+    int abort = input_read(box, position, LANE_INPUT_ABORT, slot.abort_wire, slot.abort_code);
+    const char *reply = entry->pieces != 0 ? reply_names[entry->reply] : "-";
+    if (entry->aborts)
+        reply = entry->abort_reply == COMPLETE ? "aborted" : "aborting";
+    printf("%-5.5s  %d %c  %-8s  ", (const char *)slot.tag, start,
+           has_abort(slot.kind) ? '0' + abort : '-', reply);
+}
+
+/* What the call of a block left. */
+static void print_effects(const struct box *box, uint32_t position)
+{
+    struct lane_report lane = lane_get_report(box->report, position);
+    struct lane_record record = lane_get_record(box->state, position);
+    char time[32] = "-";
+    if (record.time_out != 0)
+        snprintf(time, sizeof time, "%lu/%lu", (unsigned long)record.elapsed,
+                 (unsigned long)record.time_out);
+    else if (record.step != LANE_STEP_DORMANT)
+        snprintf(time, sizeof time, "%lu/-", (unsigned long)record.elapsed);
+    printf("%-9s  %c%c%c%c  %4u  %4u  %16s  %4u %5lu\n", step_names[lane.step],
+           lane.flags & LANE_FLAG_BUSY ? 'B' : '.', lane.flags & LANE_FLAG_DONE ? 'D' : '.',
+           lane.flags & LANE_FLAG_ERROR ? 'E' : '.', lane.flags & LANE_FLAG_ABORTED ? 'A' : '.',
+           (unsigned)lane.passes, (unsigned)lane.pieces, time, (unsigned)lane.code,
+           (unsigned long)lane.job);
 }
 
 static void print_journal(const struct logged *log, size_t events)
 {
     printf("\nJournal\nscan  lane     event       code   truck\n");
     for (size_t i = 0; i < events; i++) {
-        const uint8_t *event = log[i].bytes;
-        printf("%4d  %.8s %-9s %6u %7lu\n", log[i].scan, blocks[event[LANE_AT_EVENT_POSITION] - 1].tag,
-               event_names[event[LANE_AT_EVENT_KIND]], get16(event + LANE_AT_EVENT_CODE),
-               get32(event + LANE_AT_EVENT_JOB));
+        const struct lane_event *event = &log[i].event;
+        printf("%4d  %.8s %-9s %6u %7lu\n", log[i].scan, blocks[event->position - 1].tag,
+               event_names[event->kind], (unsigned)event->code, (unsigned long)event->job);
     }
 }
 
@@ -249,9 +280,10 @@ static void find_lanes(const struct box *box)
         uint64_t answer = lane_find(box->image, sizeof box->image, tag, LANE_TAG_BYTES);
         printf("%.8s is at position %u\n", blocks[i].tag, (unsigned)accepted("lane_find", answer));
         expect(lane_value(answer) == i + 1, "position of a tag");
+        expect(lane_slot_at(box->image, i + 1) == blocks[i].slot, "slot of a position");
     }
     uint64_t answer = lane_find(box->image, sizeof box->image, absent, LANE_TAG_BYTES);
-    expect(lane_refusal_number(answer) == 51, "LANE2 is not in the table");
+    expect(lane_refusal_number(answer) == LANE_REFUSED_LOOKUP_ABSENT, "LANE2 is not in the table");
     print_refusal(stdout, "LANE2", answer);
 }
 
@@ -259,14 +291,37 @@ static void find_lanes(const struct box *box)
 static void run_bad_scan(struct box *box)
 {
     struct box before;
-    uint8_t *lane1 = box->frame + LANE_ENTRY_BYTES * 2;
-    lane1[LANE_AT_ENTRY_RESET_REPLY] = LANE_REPLY_ERROR; /* a reset never replies with an error */
+    struct lane_entry lane1 = lane_get_entry(box->frame, 3);
+    lane1.reset_reply = LANE_REPLY_ERROR; /* a reset never replies with an error */
+    lane_put_entry(box->frame, 3, &lane1);
     before = *box;
     uint64_t answer = run_scan(box);
-    expect(lane_refusal_number(answer) == 31 && lane_refusal_place(answer) == 3, "refusal 31 at 3");
+    expect(lane_refusal_number(answer) == LANE_REFUSED_FRAME_FORM &&
+               lane_refusal_place_sort(answer) == LANE_PLACE_POSITION && lane_refusal_place(answer) == 3,
+           "the entry at position 3 is refused");
     expect(memcmp(&before, box, sizeof before) == 0, "a refused scan writes nothing");
-    printf("\n");
-    print_refusal(stdout, "A scan with a wrong reply for LANE1", answer);
+    printf("\nA ninth scan, with a wrong reply for the reset of LANE1, writes nothing:\n");
+    print_refusal(stdout, "scan", answer);
+}
+
+/* Runs one scan of the story and prints it: the events that it wrote, added to the log. */
+static size_t run_story(struct box *box, int scan, struct logged *log)
+{
+    uint32_t clock = FIRST_CLOCK + PERIOD * (uint32_t)(scan - 1);
+    for (uint32_t i = 0; i < LANES; i++)
+        write_entry(box->frame, i + 1, &story[scan - 1][i], clock);
+    memcpy(box->before, box->state, sizeof box->state);
+    uint32_t events = accepted("lane_scan", run_scan(box));
+    printf("scan %d, clock %lu\n", scan, (unsigned long)clock);
+    for (uint32_t i = 0; i < LANES; i++) {
+        print_causes(box, i + 1, &story[scan - 1][i]);
+        print_effects(box, i + 1);
+    }
+    for (uint32_t i = 0; i < events; i++) {
+        log[i].scan = scan;
+        log[i].event = lane_get_event(box->journal, i + 1);
+    }
+    return events;
 }
 
 int main(void)
@@ -275,25 +330,16 @@ int main(void)
     static struct logged log[2 * LANES * SCANS];
     size_t events = 0;
 
+    print_story();
     write_table(box.image);
     expect(accepted("lane_check", lane_check(box.image, sizeof box.image)) == LANES, "five blocks");
-    expect(lane_refusal_number(lane_check(NULL, 0)) == 1, "an empty table");
+    expect(lane_refusal_number(lane_check(NULL, 0)) == LANE_REFUSED_HEADER_LENGTH, "an empty table");
     find_lanes(&box);
     accepted("lane_fresh", lane_fresh(box.image, sizeof box.image, box.state, sizeof box.state));
 
     print_legend();
-    printf("scan       clock  lane     step       flags  passes  pieces   code   truck\n");
-    for (int scan = 1; scan <= SCANS; scan++) {
-        uint32_t clock = FIRST_CLOCK + PERIOD * (uint32_t)(scan - 1);
-        for (int i = 0; i < LANES; i++)
-            write_entry(box.frame + LANE_ENTRY_BYTES * i, &story[scan - 1][i], clock);
-        uint32_t written = accepted("lane_scan", run_scan(&box));
-        for (uint32_t i = 0; i < written; i++, events++) {
-            log[events].scan = scan;
-            memcpy(log[events].bytes, box.journal + LANE_EVENT_BYTES * i, LANE_EVENT_BYTES);
-        }
-        print_report(scan, clock, box.report);
-    }
+    for (int scan = 1; scan <= SCANS; scan++)
+        events += run_story(&box, scan, log + events);
     print_journal(log, events);
     run_bad_scan(&box);
     return EXIT_SUCCESS;

@@ -7,35 +7,18 @@
  * and no locks, so calls over different buffers may run at once; of the C library it needs memcpy and
  * memset only.
  *
+ * Stack. A call takes less than LANE_STACK_BYTES. Measured on x86-64: 828 at most, of lane_scan, by filling a
+ * stack with one byte value, running calls over 64 blocks on it and looking how deep it was changed. No length
+ * or content of a slice makes it more. What memset and memcpy of the C library take comes on top.
+ *
  * Answers. A call answers one number. Accepted, it is a value below 2^32; refused, it is
- * number * 2^32 + place. The number says which check failed, the place at which slot of the table or at
- * which position of the chain (both from 1) it failed; 0 names none. The functions at the end take an
- * answer apart. Checks run in the order of this table, and the first that fails is given. A refused call
- * has written nothing.
+ * number * 2^32 + place. The number, LANE_REFUSED_.., says which check failed, the place at which slot of
+ * the table or at which position of the chain (both from 1) it failed; 0 names none. The functions after
+ * the entry points take an answer apart. Checks run in the order of their numbers, but the chain's blocks
+ * are checked in order, each through 7 to 10 before the next; the first check that fails is given. A
+ * refused call has written nothing.
  *
- *   number  place                      fails when
- *        1  0                          the table is shorter than its header
- *        2  0                          the version is not 1, or byte 3 is not zero
- *        3  0                          the slot count N is not 1 to 64
- *        4  0                          the table's length is not 4 + 16 * N
- *        5  slot holding it, 0 = head  the head, or the next of a slot on the chain, is above N
- *        6  slot holding it            a next names a slot already met
- *        7  slot                       the kind is not 1 to 14, or bytes 6-7 are not zero
- *        8  slot                       the tag is out of form
- *        9  slot of the later block    an earlier block of the chain has the same tag
- *       10  slot                       a wire from a slot off the chain, a wire's code out of form, or an
- *                                      abort wire on a kind without one
- *       11  lowest such slot           a slot off the chain is not all zero
- *       20  0                          the state's length is not 32 * blocks
- *       21  first such position        a state record is unsound
- *       30  0                          the frame's length is not 56 * blocks
- *       31  first such position        a frame entry is out of form
- *       40  0                          the report's length is not 12 * blocks
- *       41  0                          the journal is shorter than 16 * blocks
- *       50  0                          the tag to find is not eight bytes in form
- *       51  0                          no block has the tag to find
- *
- * The chain's blocks are checked in order, each through 7 to 10 before the next.
+ * Buffers. The functions at the end read and write them, so that no host needs an offset.
  */
 
 #ifndef LANE_H
@@ -43,6 +26,15 @@
 
 #include <stddef.h>
 #include <stdint.h>
+#include <string.h>
+
+/* Counts the changes after which a host must be compiled anew: another layout or length of a buffer, other
+ * arguments of a function, another meaning of a number or an answer. What is only added doesn't count: a
+ * function, a refusal, a kind. The archive doesn't hold it: take the header that came with the archive. */
+#define LANE_ABI 1
+
+/* The stack of a call, rounded up. */
+#define LANE_STACK_BYTES 1024
 
 /* Lengths in bytes. */
 #define LANE_HEADER_BYTES 4  /* header of a table */
@@ -59,7 +51,7 @@
 #define LANE_MAX_PIECES 4
 
 /* Layouts: the offset of each field, and beside it its width in bytes and its meaning. Bytes without a
- * name are zero. Times and clocks are in microseconds; a clock turns from 2^32 - 1 to 0. */
+ * name are zero. Times and clocks are in microseconds; a clock wraps from 2^32 - 1 to 0. */
 
 /* The header of a table, its first bytes. Slots follow, numbered from 1. */
 enum {
@@ -201,6 +193,36 @@ enum {
     LANE_EVENT_WITHDRAWN = 5
 };
 
+/* Refusals: the number of the check that failed, and beside it what its place is, where it names one. */
+enum {
+    LANE_REFUSED_HEADER_LENGTH = 1,
+    LANE_REFUSED_HEADER_VERSION = 2,
+    LANE_REFUSED_HEADER_SLOTS = 3,
+    LANE_REFUSED_TABLE_LENGTH = 4,
+    LANE_REFUSED_CHAIN_ABOVE = 5,    /* the slot whose next is above the slot count, 0 if the head is */
+    LANE_REFUSED_CHAIN_REPEATED = 6, /* the slot whose next was already met */
+    LANE_REFUSED_KIND = 7,           /* the slot */
+    LANE_REFUSED_TAG_FORM = 8,       /* the slot */
+    LANE_REFUSED_TAG_REPEATED = 9,   /* the slot of the later block */
+    LANE_REFUSED_WIRE = 10,          /* the slot */
+    LANE_REFUSED_SPARE = 11,         /* the lowest such slot */
+    LANE_REFUSED_STATE_LENGTH = 20,
+    LANE_REFUSED_STATE_UNSOUND = 21, /* the first such position */
+    LANE_REFUSED_FRAME_LENGTH = 30,
+    LANE_REFUSED_FRAME_FORM = 31,    /* the first such position */
+    LANE_REFUSED_REPORT_LENGTH = 40,
+    LANE_REFUSED_JOURNAL_LENGTH = 41,
+    LANE_REFUSED_LOOKUP_FORM = 50,
+    LANE_REFUSED_LOOKUP_ABSENT = 51
+};
+
+/* What the place of a refusal is. A later header may have more of them. */
+enum lane_place {
+    LANE_PLACE_NONE = 0,    /* none is named */
+    LANE_PLACE_SLOT = 1,    /* a slot of the table, from 1 */
+    LANE_PLACE_POSITION = 2 /* a position of the chain, from 1 */
+};
+
 /* The error code of a job that was not over within its time-out. Other codes are those of the replies. */
 #define LANE_CODE_TIME_OUT 1
 
@@ -224,7 +246,7 @@ uint64_t lane_scan(const uint8_t *image, size_t image_len, uint8_t *state, size_
 
 /* The position, from 1, of the block with this tag in the table's chain. Refusals 1 to 11, 50, 51.
  * Only reads. The engine's fifth entry point, show, hands back a part of the table and so is not exported:
- * a host takes the 16 bytes of the slot itself. */
+ * lane_get_slot(image, lane_slot_at(image, position)) is what it shows. */
 uint64_t lane_find(const uint8_t *image, size_t image_len, const uint8_t *tag, size_t tag_len);
 
 /* Whether the call was accepted: 1 or 0. */
@@ -242,34 +264,339 @@ static inline uint32_t lane_refusal_place(uint64_t answer)
     return lane_is_accepted(answer) ? 0 : (uint32_t)answer;
 }
 
+/* What the place of a refusal is: it goes by the number of the check. */
+static inline enum lane_place lane_refusal_place_sort(uint64_t answer)
+{
+    if (lane_refusal_place(answer) == 0)
+        return LANE_PLACE_NONE;
+    switch (lane_refusal_number(answer)) {
+    case LANE_REFUSED_CHAIN_ABOVE:
+    case LANE_REFUSED_CHAIN_REPEATED:
+    case LANE_REFUSED_KIND:
+    case LANE_REFUSED_TAG_FORM:
+    case LANE_REFUSED_TAG_REPEATED:
+    case LANE_REFUSED_WIRE:
+    case LANE_REFUSED_SPARE: return LANE_PLACE_SLOT;
+    case LANE_REFUSED_STATE_UNSOUND:
+    case LANE_REFUSED_FRAME_FORM: return LANE_PLACE_POSITION;
+    default: return LANE_PLACE_NONE;
+    }
+}
+
+/* What a place is, in a word; "" where none is named. */
+static inline const char *lane_place_text(enum lane_place place)
+{
+    switch (place) {
+    case LANE_PLACE_SLOT: return "slot";
+    case LANE_PLACE_POSITION: return "position";
+    default: return "";
+    }
+}
+
 /* Why a call was refused, in words; "it" is the slot or the block that the place names. */
 static inline const char *lane_refusal_text(uint64_t answer)
 {
     switch (lane_refusal_number(answer)) {
     case 0: return "the call was accepted";
-    case 1: return "the table is shorter than its header of 4 bytes";
-    case 2: return "the table's version is not 1, or byte 3 of its header is not zero";
-    case 3: return "the table's slot count is not 1 to 64";
-    case 4: return "the table's length is not 4 bytes and 16 a slot";
-    case 5: return lane_refusal_place(answer) == 0 ? "the head of the chain is above the slot count"
-                                                   : "its next slot is above the slot count";
-    case 6: return "its next slot was already met on the chain";
-    case 7: return "its kind is not 1 to 14, or its bytes 6-7 are not zero";
-    case 8: return "its tag is not one or more of A-Z and 0-9, then spaces to eight bytes";
-    case 9: return "an earlier block of the chain has this tag";
-    case 10: return "a wire of it comes from a slot off the chain, has a code out of form, or is an abort "
-                    "wire on a kind without one";
-    case 11: return "it is off the chain and not all zero";
-    case 20: return "the state's length is not 32 bytes a block";
-    case 21: return "its state record is unsound";
-    case 30: return "the frame's length is not 56 bytes a block";
-    case 31: return "its frame entry is out of form";
-    case 40: return "the report's length is not 12 bytes a block";
-    case 41: return "the journal is shorter than 16 bytes a block";
-    case 50: return "the tag to find is not eight bytes in the form of a tag";
-    case 51: return "no block of the table has this tag";
+    case LANE_REFUSED_HEADER_LENGTH: return "the table is shorter than its header of 4 bytes";
+    case LANE_REFUSED_HEADER_VERSION:
+        return "the table's version is not 1, or byte 3 of its header is not zero";
+    case LANE_REFUSED_HEADER_SLOTS: return "the table's slot count is not 1 to 64";
+    case LANE_REFUSED_TABLE_LENGTH: return "the table's length is not 4 bytes and 16 a slot";
+    case LANE_REFUSED_CHAIN_ABOVE:
+        return lane_refusal_place(answer) == 0 ? "the head of the chain is above the slot count"
+                                               : "its next slot is above the slot count";
+    case LANE_REFUSED_CHAIN_REPEATED: return "its next slot was already met on the chain";
+    case LANE_REFUSED_KIND: return "its kind is not 1 to 14, or its bytes 6-7 are not zero";
+    case LANE_REFUSED_TAG_FORM:
+        return "its tag is not one or more of A-Z and 0-9, then spaces to eight bytes";
+    case LANE_REFUSED_TAG_REPEATED: return "an earlier block of the chain has this tag";
+    case LANE_REFUSED_WIRE:
+        return "a wire of it comes from a slot off the chain, has a code out of form, or is an abort "
+               "wire on a kind without one";
+    case LANE_REFUSED_SPARE: return "it is off the chain and not all zero";
+    case LANE_REFUSED_STATE_LENGTH: return "the state's length is not 32 bytes a block";
+    case LANE_REFUSED_STATE_UNSOUND: return "its state record is unsound";
+    case LANE_REFUSED_FRAME_LENGTH: return "the frame's length is not 56 bytes a block";
+    case LANE_REFUSED_FRAME_FORM: return "its frame entry is out of form";
+    case LANE_REFUSED_REPORT_LENGTH: return "the report's length is not 12 bytes a block";
+    case LANE_REFUSED_JOURNAL_LENGTH: return "the journal is shorter than 16 bytes a block";
+    case LANE_REFUSED_LOOKUP_FORM: return "the tag to find is not eight bytes in the form of a tag";
+    case LANE_REFUSED_LOOKUP_ABSENT: return "no block of the table has this tag";
     default: return "no check has this number";
     }
+}
+
+/* Readers and writers of the buffers. Each takes the buffer, and which of its parts is meant: a slot, a
+ * position or the number of an event, all from 1 and within the buffer. A writer writes the whole part, the
+ * bytes without a name as zero. The fields are those of the layouts above. */
+
+struct lane_slot {
+    uint8_t kind;
+    uint8_t next;
+    uint8_t start_wire;
+    uint8_t start_code;
+    uint8_t abort_wire;
+    uint8_t abort_code;
+    uint8_t tag[LANE_TAG_BYTES];
+};
+
+struct lane_record {
+    uint8_t step;
+    uint8_t flags;
+    uint8_t request;
+    uint16_t code;
+    uint32_t job;
+    uint32_t time_limit;
+    uint32_t time_out;
+    uint32_t reading;
+    uint64_t elapsed;
+};
+
+struct lane_piece {
+    uint8_t reply;
+    uint16_t code;
+    uint32_t clock;
+};
+
+struct lane_entry {
+    uint8_t inputs;
+    uint8_t count;
+    uint8_t abort_reply;
+    uint8_t reset_reply;
+    uint16_t abort_code;
+    uint32_t job;
+    uint32_t time_limit;
+    uint32_t time_out;
+    uint32_t clock;
+    struct lane_piece pieces[LANE_MAX_PIECES];
+};
+
+struct lane_report {
+    uint8_t flags;
+    uint8_t pieces;
+    uint8_t passes;
+    uint8_t step;
+    uint16_t code;
+    uint32_t job;
+};
+
+struct lane_event {
+    uint8_t kind;
+    uint8_t position;
+    uint16_t code;
+    uint32_t job;
+};
+
+/* Numbers in bytes, for the functions below. */
+static inline uint16_t lane_get16(const uint8_t *from)
+{
+    return (uint16_t)(from[0] | (uint16_t)from[1] << 8);
+}
+
+static inline uint32_t lane_get32(const uint8_t *from)
+{
+    return lane_get16(from) | (uint32_t)lane_get16(from + 2) << 16;
+}
+
+static inline uint64_t lane_get64(const uint8_t *from)
+{
+    return lane_get32(from) | (uint64_t)lane_get32(from + 4) << 32;
+}
+
+static inline void lane_put16(uint8_t *to, uint16_t value)
+{
+    to[0] = (uint8_t)(value & 0xff);
+    to[1] = (uint8_t)(value >> 8);
+}
+
+static inline void lane_put32(uint8_t *to, uint32_t value)
+{
+    lane_put16(to, (uint16_t)(value & 0xffff));
+    lane_put16(to + 2, (uint16_t)(value >> 16));
+}
+
+static inline void lane_put64(uint8_t *to, uint64_t value)
+{
+    lane_put32(to, (uint32_t)(value & 0xffffffff));
+    lane_put32(to + 4, (uint32_t)(value >> 32));
+}
+
+/* The offset of a slot in a table. */
+static inline size_t lane_slot_offset(uint32_t slot)
+{
+    return LANE_HEADER_BYTES + (size_t)LANE_SLOT_BYTES * (slot - 1);
+}
+
+/* The slot of the block at a position of a table that lane_check accepted, 0 if the chain has no such
+ * position. Positions count along the chain, which may jump about among the slots: a position is no slot. */
+static inline uint32_t lane_slot_at(const uint8_t *image, uint32_t position)
+{
+    uint32_t slot = image[LANE_AT_HEADER_HEAD];
+    if (position == 0 || position > LANE_MAX_BLOCKS)
+        return 0;
+    for (; position > 1 && slot != 0; position--)
+        slot = image[lane_slot_offset(slot) + LANE_AT_SLOT_NEXT];
+    return slot;
+}
+
+/* Writes the header of a table. */
+static inline void lane_put_header(uint8_t *image, uint8_t slots, uint8_t head)
+{
+    memset(image, 0, LANE_HEADER_BYTES);
+    image[LANE_AT_HEADER_VERSION] = 1;
+    image[LANE_AT_HEADER_SLOTS] = slots;
+    image[LANE_AT_HEADER_HEAD] = head;
+}
+
+static inline struct lane_slot lane_get_slot(const uint8_t *image, uint32_t slot)
+{
+    const uint8_t *from = image + lane_slot_offset(slot);
+    struct lane_slot got;
+    got.kind = from[LANE_AT_SLOT_KIND];
+    got.next = from[LANE_AT_SLOT_NEXT];
+    got.start_wire = from[LANE_AT_SLOT_START_WIRE];
+    got.start_code = from[LANE_AT_SLOT_START_CODE];
+    got.abort_wire = from[LANE_AT_SLOT_ABORT_WIRE];
+    got.abort_code = from[LANE_AT_SLOT_ABORT_CODE];
+    memcpy(got.tag, from + LANE_AT_SLOT_TAG, LANE_TAG_BYTES);
+    return got;
+}
+
+static inline void lane_put_slot(uint8_t *image, uint32_t slot, const struct lane_slot *put)
+{
+    uint8_t *to = image + lane_slot_offset(slot);
+    memset(to, 0, LANE_SLOT_BYTES);
+    to[LANE_AT_SLOT_KIND] = put->kind;
+    to[LANE_AT_SLOT_NEXT] = put->next;
+    to[LANE_AT_SLOT_START_WIRE] = put->start_wire;
+    to[LANE_AT_SLOT_START_CODE] = put->start_code;
+    to[LANE_AT_SLOT_ABORT_WIRE] = put->abort_wire;
+    to[LANE_AT_SLOT_ABORT_CODE] = put->abort_code;
+    memcpy(to + LANE_AT_SLOT_TAG, put->tag, LANE_TAG_BYTES);
+}
+
+static inline struct lane_record lane_get_record(const uint8_t *state, uint32_t position)
+{
+    const uint8_t *from = state + (size_t)LANE_RECORD_BYTES * (position - 1);
+    struct lane_record got;
+    got.step = from[LANE_AT_RECORD_STEP];
+    got.flags = from[LANE_AT_RECORD_FLAGS];
+    got.request = from[LANE_AT_RECORD_REQUEST];
+    got.code = lane_get16(from + LANE_AT_RECORD_CODE);
+    got.job = lane_get32(from + LANE_AT_RECORD_JOB);
+    got.time_limit = lane_get32(from + LANE_AT_RECORD_TIME_LIMIT);
+    got.time_out = lane_get32(from + LANE_AT_RECORD_TIME_OUT);
+    got.reading = lane_get32(from + LANE_AT_RECORD_READING);
+    got.elapsed = lane_get64(from + LANE_AT_RECORD_ELAPSED);
+    return got;
+}
+
+/* Between scans only lane_fresh and lane_scan write a state; this is for states made elsewhere. */
+static inline void lane_put_record(uint8_t *state, uint32_t position, const struct lane_record *put)
+{
+    uint8_t *to = state + (size_t)LANE_RECORD_BYTES * (position - 1);
+    memset(to, 0, LANE_RECORD_BYTES);
+    to[LANE_AT_RECORD_STEP] = put->step;
+    to[LANE_AT_RECORD_FLAGS] = put->flags;
+    to[LANE_AT_RECORD_REQUEST] = put->request;
+    lane_put16(to + LANE_AT_RECORD_CODE, put->code);
+    lane_put32(to + LANE_AT_RECORD_JOB, put->job);
+    lane_put32(to + LANE_AT_RECORD_TIME_LIMIT, put->time_limit);
+    lane_put32(to + LANE_AT_RECORD_TIME_OUT, put->time_out);
+    lane_put32(to + LANE_AT_RECORD_READING, put->reading);
+    lane_put64(to + LANE_AT_RECORD_ELAPSED, put->elapsed);
+}
+
+/* Reads all four pieces; those past the count are zero. */
+static inline struct lane_entry lane_get_entry(const uint8_t *frame, uint32_t position)
+{
+    const uint8_t *from = frame + (size_t)LANE_ENTRY_BYTES * (position - 1);
+    const uint8_t *piece = from + LANE_AT_ENTRY_PIECES;
+    struct lane_entry got;
+    got.inputs = from[LANE_AT_ENTRY_INPUTS];
+    got.count = from[LANE_AT_ENTRY_COUNT];
+    got.abort_reply = from[LANE_AT_ENTRY_ABORT_REPLY];
+    got.reset_reply = from[LANE_AT_ENTRY_RESET_REPLY];
+    got.abort_code = lane_get16(from + LANE_AT_ENTRY_ABORT_CODE);
+    got.job = lane_get32(from + LANE_AT_ENTRY_JOB);
+    got.time_limit = lane_get32(from + LANE_AT_ENTRY_TIME_LIMIT);
+    got.time_out = lane_get32(from + LANE_AT_ENTRY_TIME_OUT);
+    got.clock = lane_get32(from + LANE_AT_ENTRY_CLOCK);
+    for (int i = 0; i < LANE_MAX_PIECES; i++, piece += LANE_PIECE_BYTES) {
+        got.pieces[i].reply = piece[LANE_AT_PIECE_REPLY];
+        got.pieces[i].code = lane_get16(piece + LANE_AT_PIECE_CODE);
+        got.pieces[i].clock = lane_get32(piece + LANE_AT_PIECE_CLOCK);
+    }
+    return got;
+}
+
+/* Writes as many pieces as the count says, and zeros after them. */
+static inline void lane_put_entry(uint8_t *frame, uint32_t position, const struct lane_entry *put)
+{
+    uint8_t *to = frame + (size_t)LANE_ENTRY_BYTES * (position - 1);
+    uint8_t *piece = to + LANE_AT_ENTRY_PIECES;
+    memset(to, 0, LANE_ENTRY_BYTES);
+    to[LANE_AT_ENTRY_INPUTS] = put->inputs;
+    to[LANE_AT_ENTRY_COUNT] = put->count;
+    to[LANE_AT_ENTRY_ABORT_REPLY] = put->abort_reply;
+    to[LANE_AT_ENTRY_RESET_REPLY] = put->reset_reply;
+    lane_put16(to + LANE_AT_ENTRY_ABORT_CODE, put->abort_code);
+    lane_put32(to + LANE_AT_ENTRY_JOB, put->job);
+    lane_put32(to + LANE_AT_ENTRY_TIME_LIMIT, put->time_limit);
+    lane_put32(to + LANE_AT_ENTRY_TIME_OUT, put->time_out);
+    lane_put32(to + LANE_AT_ENTRY_CLOCK, put->clock);
+    for (int i = 0; i < LANE_MAX_PIECES && i < put->count; i++, piece += LANE_PIECE_BYTES) {
+        piece[LANE_AT_PIECE_REPLY] = put->pieces[i].reply;
+        lane_put16(piece + LANE_AT_PIECE_CODE, put->pieces[i].code);
+        lane_put32(piece + LANE_AT_PIECE_CLOCK, put->pieces[i].clock);
+    }
+}
+
+static inline struct lane_report lane_get_report(const uint8_t *report, uint32_t position)
+{
+    const uint8_t *from = report + (size_t)LANE_REPORT_BYTES * (position - 1);
+    struct lane_report got;
+    got.flags = from[LANE_AT_REPORT_FLAGS];
+    got.pieces = from[LANE_AT_REPORT_PIECES];
+    got.passes = from[LANE_AT_REPORT_PASSES];
+    got.step = from[LANE_AT_REPORT_STEP];
+    got.code = lane_get16(from + LANE_AT_REPORT_CODE);
+    got.job = lane_get32(from + LANE_AT_REPORT_JOB);
+    return got;
+}
+
+static inline void lane_put_report(uint8_t *report, uint32_t position, const struct lane_report *put)
+{
+    uint8_t *to = report + (size_t)LANE_REPORT_BYTES * (position - 1);
+    memset(to, 0, LANE_REPORT_BYTES);
+    to[LANE_AT_REPORT_FLAGS] = put->flags;
+    to[LANE_AT_REPORT_PIECES] = put->pieces;
+    to[LANE_AT_REPORT_PASSES] = put->passes;
+    to[LANE_AT_REPORT_STEP] = put->step;
+    lane_put16(to + LANE_AT_REPORT_CODE, put->code);
+    lane_put32(to + LANE_AT_REPORT_JOB, put->job);
+}
+
+/* The number counts the events of a journal from 1, up to what its scan answered. */
+static inline struct lane_event lane_get_event(const uint8_t *journal, uint32_t number)
+{
+    const uint8_t *from = journal + (size_t)LANE_EVENT_BYTES * (number - 1);
+    struct lane_event got;
+    got.kind = from[LANE_AT_EVENT_KIND];
+    got.position = from[LANE_AT_EVENT_POSITION];
+    got.code = lane_get16(from + LANE_AT_EVENT_CODE);
+    got.job = lane_get32(from + LANE_AT_EVENT_JOB);
+    return got;
+}
+
+static inline void lane_put_event(uint8_t *journal, uint32_t number, const struct lane_event *put)
+{
+    uint8_t *to = journal + (size_t)LANE_EVENT_BYTES * (number - 1);
+    to[LANE_AT_EVENT_KIND] = put->kind;
+    to[LANE_AT_EVENT_POSITION] = put->position;
+    lane_put16(to + LANE_AT_EVENT_CODE, put->code);
+    lane_put32(to + LANE_AT_EVENT_JOB, put->job);
 }
 
 #ifdef __cplusplus

@@ -3,7 +3,7 @@
 use crate::baseline;
 use crate::table::{tag, OTHERS, SIZES};
 use crate::timing::{head, line, nanoseconds};
-use lane::{ffi, image, Block, Engine, Entry, Frame, Kind, Piece, Reply, Step};
+use lane::{ffi, image, Block, Engine, Entry, Frame, Kind, Piece, Position, Reply, Step};
 use std::hint::black_box;
 
 /// What the blocks do, as the frames of scans that are run in turn.
@@ -50,7 +50,8 @@ fn table(blocks: usize) -> Vec<u8> {
 /// The frame that gives every block the same entry.
 fn frame(blocks: usize, entry: &Entry) -> Frame {
     let mut frame = Frame::new(blocks);
-    (1..=blocks).for_each(|position| frame.set(position, entry));
+    let positions = (1..=blocks).filter_map(Position::new);
+    positions.for_each(|position| frame.set(position, entry));
     frame
 }
 
@@ -134,7 +135,7 @@ pub fn run() {
         let table = table(blocks);
         let engine = Engine::new(&table).expect("an accepted table");
         let fresh = Buffers {
-            state: engine.fresh().expect("a fresh state").as_bytes().to_vec(),
+            state: engine.fresh().as_bytes().to_vec(),
             report: vec![0; lane::REPORT_BYTES * blocks],
             journal: vec![0; 2 * lane::EVENT_BYTES * blocks],
         };

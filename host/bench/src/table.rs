@@ -14,7 +14,7 @@ pub const OTHERS: [&str; 2] = ["reference", "plain C"];
 
 /// The tag of a position.
 pub fn tag(position: usize) -> Tag {
-    Tag::new(&format!("LANE{position}")).expect("a tag in form")
+    format!("LANE{position}").parse().expect("a tag in form")
 }
 
 /// A table of blocks with a wire on each input, of all kinds in turn.
@@ -49,9 +49,9 @@ pub fn run() {
         ]);
         let [found, absent] = [last, absent].map(|tag| {
             nanoseconds([
-                &mut || _ = black_box(ffi::find(image(), tag.as_ref())),
-                &mut || _ = black_box(table::find(image(), tag.as_ref())),
-                &mut || _ = black_box(baseline::find(image(), tag.as_ref())),
+                &mut || _ = black_box(ffi::find(image(), tag.as_bytes())),
+                &mut || _ = black_box(table::find(image(), tag.as_bytes())),
+                &mut || _ = black_box(baseline::find(image(), tag.as_bytes())),
             ])
         });
         let names = ["check", "find, the last", "find, absent"];

@@ -56,7 +56,7 @@ fn put(to: &mut [u8], at: usize, bytes: &[u8]) {
     to[at..at + bytes.len()].copy_from_slice(bytes);
 }
 
-/// A number of 32 bits: small, near a turn of the counter, or any.
+/// A number of 32 bits: small, near a wrap of the counter, or any.
 pub fn word(rng: &mut Rng) -> u32 {
     match rng.below(8) {
         0 => 0,
@@ -206,12 +206,12 @@ pub fn unsound(rng: &mut Rng, kind: u8) -> [u8; RECORD] {
     record
 }
 
-/// A clock that goes on by small steps, and sometimes stands, turns or runs back.
+/// A clock that goes on by small steps, and sometimes stands, wraps or runs back.
 #[derive(Clone, Debug)]
 pub struct Clock(u32);
 
 impl Clock {
-    /// A clock at zero, shortly before a turn of the counter, or anywhere.
+    /// A clock at zero, shortly before a wrap of the counter, or anywhere.
     pub fn new(rng: &mut Rng) -> Clock {
         Clock(match rng.below(3) {
             0 => 0,

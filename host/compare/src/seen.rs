@@ -33,7 +33,7 @@ impl Seen {
             self.steps[usize::from(entry.step.number())] += 1;
         }
         for event in events_of(after, events) {
-            let slot = table.chain[usize::from(event.position) - 1];
+            let slot = table.chain[event.position.index()];
             let kind = usize::from(table.kind(slot));
             self.events[kind][usize::from(event.kind.number())] += 1;
             self.time_outs[kind] += u64::from(event.code == 1);

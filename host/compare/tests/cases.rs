@@ -50,7 +50,7 @@ fn scans() {
     }
     println!("{cases} cases");
     print!("{tally}");
-    assert_eq!((cases, tally.accepted()), (54, 95));
+    assert_eq!((cases, tally.accepted()), (60, 101));
 }
 
 #[test]

@@ -3,10 +3,9 @@
 
 use compare::tally::Tally;
 use compare::text::{answer, parse_answer};
-use lane::{Engine, Place, Refusal};
+use lane::{Engine, Place};
 
 const CASES: &str = include_str!("../data/table_cases.txt");
-const HEADER: &str = include_str!("../../../include/lane.h");
 
 /// The cases: name, words of the call, words of the answer.
 fn cases() -> impl Iterator<Item = (&'static str, Vec<&'static str>, Vec<&'static str>)> {
@@ -51,23 +50,7 @@ fn places_are_named() {
                 let front = format!("refused {} at {place}: ", refusal.number());
                 assert!(text.starts_with(&front), "{name}: {text}");
             }
-            Place::Position(_) => panic!("{name}: {text}"),
-        }
-    }
-}
-
-/// The C header has the binding's sentence for every number.
-#[test]
-fn header_has_the_same_sentences() {
-    let words = |text: &str| text.split_whitespace().collect::<Vec<_>>().join(" ");
-    let header = words(HEADER).replace(" \" \"", " ");
-    for number in (1..=11).chain([20, 21, 30, 31, 40, 41, 50, 51]) {
-        for place in [0, 1] {
-            let reason = Refusal::new(number, place).reason();
-            assert!(
-                header.contains(&format!("\"{reason}\"")),
-                "{number}: {reason}"
-            );
+            _ => panic!("{name}: {text}"),
         }
     }
 }

@@ -52,7 +52,7 @@ impl Turns {
     /// start and of the start at the finish; a job is open in Executing and Aborting.
     fn follow(&mut self, given: &Buffers, after: &Buffers, events: u32) {
         for event in events_of(after, events) {
-            let index = usize::from(event.position) - 1;
+            let index = event.position.index();
             let job = &given.frame[ENTRY_BYTES * index + 8..][..4];
             let open = &mut self.0[index];
             match event.kind {
@@ -246,7 +246,7 @@ fn typed_buffers() {
         let table = table(&mut rng);
         let engine = Engine::new(&table.image).expect("an accepted table");
         let mut list = List::new(&mut rng, table);
-        let mut state = engine.fresh().expect("a fresh state");
+        let mut state = engine.fresh();
         if rng.one_in(2) {
             state = State::from_bytes(&sound_state(&mut rng, &list.table));
         }
@@ -261,7 +261,7 @@ fn typed_buffers() {
             assert!(after.journal.starts_with(outcome.journal.as_bytes()));
             let events: Vec<u8> = outcome.journal.events().flat_map(|e| e.encode()).collect();
             assert_eq!(events, outcome.journal.as_bytes());
-            for position in 1..=engine.blocks() {
+            for position in engine.positions() {
                 let record = state.record(position).expect("a record in form");
                 let entry = frame.entry(position).expect("an entry in form");
                 let report = outcome.report.entry(position).expect("a report in form");
@@ -270,7 +270,7 @@ fn typed_buffers() {
                 assert_eq!(ReportEntry::decode(&report.encode()), Some(report));
                 let mut copy = Frame::new(engine.blocks());
                 copy.set(position, &entry);
-                let part = ENTRY_BYTES * (position - 1)..ENTRY_BYTES * position;
+                let part = ENTRY_BYTES * position.index()..ENTRY_BYTES * position.number();
                 assert_eq!(copy.as_bytes()[part.clone()], given.frame[part]);
             }
         }

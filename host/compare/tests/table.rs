@@ -8,7 +8,7 @@ use compare::rng::{settings, Rng};
 use compare::tables::{alike, no_tag, tag, Fault, Size, Table};
 use compare::tally::Tally;
 use compare::text::{answer, Answer};
-use lane::{Engine, Refusal};
+use lane::{Engine, Position, Refusal, Tag};
 
 /// The numbers of the table checks, and of those that name a slot.
 const TABLE: std::ops::RangeInclusive<u32> = 1..=11;
@@ -231,7 +231,8 @@ fn tags() {
     assert!(tally.accepted() > 0);
 }
 
-/// The binding shows the same slots as the reference, and none where that shows none.
+/// The binding shows the same slots as the reference, and none where that shows none; it finds each tag and
+/// knows the tag of each position.
 #[test]
 fn slots_shown() {
     let (seed, cases) = settings("slots shown", 107, 10_000);
@@ -242,10 +243,20 @@ fn slots_shown() {
         let engine = Engine::new(&table.image).expect("an accepted table");
         let mut wanted: Vec<_> = table.chain.iter().map(|&slot| table.tag(slot)).collect();
         wanted.extend([tag(&mut rng), no_tag(&mut rng)]);
-        for tag in wanted {
-            let shown = engine.show(tag).map_or(&[][..], |slot| &slot[..]);
-            let expected = reference::table::show(&table.image, &tag);
-            assert_eq!(shown, expected, "case {case}: {tag:?}");
+        for bytes in wanted {
+            let tag = Tag::from_bytes(bytes);
+            let slot = tag.and_then(|tag| engine.show(tag).ok());
+            let shown = slot.map_or(&[][..], |slot| &slot[..]);
+            let expected = reference::table::show(&table.image, &bytes);
+            assert_eq!(shown, expected, "case {case}: {bytes:?}");
         }
+        for (position, &slot) in engine.positions().zip(&table.chain) {
+            let tag = engine.tag(position).expect("a block");
+            assert_eq!(tag.as_bytes(), &table.tag(slot), "case {case}");
+            assert_eq!(tag.to_string().parse(), Ok(tag), "case {case}");
+            assert_eq!(engine.find(tag), Ok(position), "case {case}");
+        }
+        let after = Position::new(table.chain.len() + 1);
+        assert_eq!(after.and_then(|position| engine.tag(position)), None);
     }
 }

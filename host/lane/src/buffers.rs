@@ -1,11 +1,11 @@
 //! The buffers of a scan, each of the length that its engine's table asks for.
 
-use crate::{Entry, Event, Record, ReportEntry};
+use crate::{Entry, Event, Position, Record, ReportEntry};
 use crate::{ENTRY_BYTES, EVENT_BYTES, RECORD_BYTES, REPORT_BYTES};
 
-/// The part of a position, from 1.
-fn part<const N: usize>(bytes: &[u8], position: usize) -> &[u8; N] {
-    &bytes.as_chunks().0[position - 1]
+/// The part of a position, `None` above the last.
+fn part<const N: usize>(bytes: &[u8], position: Position) -> Option<&[u8; N]> {
+    bytes.as_chunks().0.get(position.index())
 }
 
 /// The state of all blocks between scans: one record a block.
@@ -27,12 +27,17 @@ impl State {
         &mut self.0
     }
 
-    /// The record at a position, from 1; `None` if its bytes are out of form.
+    /// The record at a position; `None` above the number of blocks, and if its bytes are out of form.
     ///
-    /// # Panics
-    /// If the position is 0 or above the number of blocks.
-    pub fn record(&self, position: usize) -> Option<Record> {
-        Record::decode(part::<RECORD_BYTES>(&self.0, position))
+    /// ```
+    /// use lane::{Position, Record, State};
+    ///
+    /// let state = State::from_bytes(&[[0; 32], [7; 32]].concat());
+    /// let record = |number| state.record(Position::new(number).unwrap());
+    /// assert_eq!([1, 2, 3].map(record), [Some(Record::default()), None, None]);
+    /// ```
+    pub fn record(&self, position: Position) -> Option<Record> {
+        Record::decode(part::<RECORD_BYTES>(&self.0, position)?)
     }
 }
 
@@ -56,20 +61,17 @@ impl Frame {
         &self.0
     }
 
-    /// The entry at a position, from 1; `None` if its bytes are out of form.
-    ///
-    /// # Panics
-    /// If the position is 0 or above the number of blocks.
-    pub fn entry(&self, position: usize) -> Option<Entry> {
-        Entry::decode(part::<ENTRY_BYTES>(&self.0, position))
+    /// The entry at a position; `None` above the number of blocks, and if its bytes are out of form.
+    pub fn entry(&self, position: Position) -> Option<Entry> {
+        Entry::decode(part::<ENTRY_BYTES>(&self.0, position)?)
     }
 
-    /// Writes the entry at a position, from 1.
+    /// Writes the entry at a position.
     ///
     /// # Panics
-    /// If the position is 0 or above the number of blocks.
-    pub fn set(&mut self, position: usize, entry: &Entry) {
-        self.0.as_chunks_mut().0[position - 1] = entry.encode();
+    /// If the position is above the number of blocks.
+    pub fn set(&mut self, position: Position, entry: &Entry) {
+        self.0.as_chunks_mut().0[position.index()] = entry.encode();
     }
 }
 
@@ -92,12 +94,9 @@ impl Report {
         &mut self.0
     }
 
-    /// The entry at a position, from 1; `None` if its bytes are out of form.
-    ///
-    /// # Panics
-    /// If the position is 0 or above the number of blocks.
-    pub fn entry(&self, position: usize) -> Option<ReportEntry> {
-        ReportEntry::decode(part::<REPORT_BYTES>(&self.0, position))
+    /// The entry at a position; `None` above the number of blocks, and if its bytes are out of form.
+    pub fn entry(&self, position: Position) -> Option<ReportEntry> {
+        ReportEntry::decode(part::<REPORT_BYTES>(&self.0, position)?)
     }
 }
 

@@ -1,24 +1,28 @@
 //! A table that the engine has accepted.
 
-use crate::{ffi, Refusal, HEADER_BYTES, SLOT_BYTES};
+use crate::{ffi, Position, Refusal, Tag, HEADER_BYTES, SLOT_BYTES};
 
-/// Places of the head in the header, and of the next slot in a slot.
+/// Places of the head in the header, and of the next slot and the tag in a slot.
 const HEAD: usize = 2;
 const NEXT: usize = 1;
+const TAG: usize = 8;
 
 /// The engine over one accepted table, of which it keeps a copy.
 ///
 /// ```
 /// use lane::{image, Block, Engine, Kind, Tag};
 ///
-/// let mut bytes = image(&[Block::new(Kind::LCon, Tag::new("GATE1").unwrap())]);
+/// let gate: Tag = "GATE1".parse()?;
+/// let mut bytes = image(&[Block::new(Kind::LCon, gate)]);
 /// let engine = Engine::new(&bytes)?;
-/// assert_eq!(engine.find("GATE1   ")?, 1);
+/// let position = engine.find(gate)?;
+/// assert_eq!(position.number(), 1);
+/// assert_eq!(engine.tag(position), Some(gate));
 ///
 /// bytes[4] = 15; // no such kind
 /// let refusal = Engine::new(&bytes).unwrap_err();
 /// assert_eq!((refusal.number(), refusal.place_number()), (7, 1));
-/// # Ok::<(), lane::Refusal>(())
+/// # Ok::<(), Box<dyn std::error::Error>>(())
 /// ```
 #[derive(Clone, Debug, PartialEq, Eq)]
 pub struct Engine {
@@ -47,36 +51,59 @@ impl Engine {
         &self.image
     }
 
-    /// The position of the block with this tag, given as eight bytes (a [`Tag`](crate::Tag) is).
+    /// The positions of all blocks, in chain order.
+    pub fn positions(&self) -> impl DoubleEndedIterator<Item = Position> {
+        Position::first(self.blocks)
+    }
+
+    /// The position of the block with this tag.
     ///
     /// # Errors
-    /// 50 if these are not eight bytes in the form of a tag, 51 if no block has it.
-    pub fn find(&self, tag: impl AsRef<[u8]>) -> Result<usize, Refusal> {
-        ffi::find(&self.image, tag.as_ref()).map(|position| position as usize)
+    /// 51 if no block has it.
+    ///
+    /// # Panics
+    /// Never: what the engine finds has a position, 1 to 64.
+    pub fn find(&self, tag: Tag) -> Result<Position, Refusal> {
+        let number = ffi::find(&self.image, tag.as_bytes())?;
+        Ok(Position::new(number as usize).expect("a position"))
+    }
+
+    /// The tag of the block at a position, `None` above the number of blocks.
+    pub fn tag(&self, position: Position) -> Option<Tag> {
+        let on_chain = position.number() <= self.blocks;
+        let slot = on_chain.then(|| self.slot(position))?;
+        Tag::from_bytes(*slot[TAG..].first_chunk()?)
     }
 
     /// The slot of the block with this tag, as a part of the image.
     ///
     /// ```
-    /// use lane::{image, Block, Engine, Kind, Tag};
+    /// use lane::{image, Block, Engine, Kind};
     ///
-    /// let tags = ["LANE0", "LANEO"].map(|name| Tag::new(name).unwrap());
-    /// let engine = Engine::new(&image(&tags.map(|tag| Block::new(Kind::ETrig, tag))))?;
-    /// assert_eq!(engine.show("LANEO   ")?, b"\x01\0\0\0\0\0\0\0LANEO   ");
-    /// assert_eq!(engine.show("LANE1   ").unwrap_err().number(), 51);
-    /// # Ok::<(), lane::Refusal>(())
+    /// let blocks = [
+    ///     Block::new(Kind::ETrig, "LANE0".parse()?),
+    ///     Block::new(Kind::ETrigA, "LANEO".parse()?),
+    /// ];
+    /// let engine = Engine::new(&image(&blocks))?;
+    /// assert_eq!(engine.show("LANEO".parse()?)?, b"\x05\0\0\0\0\0\0\0LANEO   ");
+    /// assert_eq!(engine.show("LANE1".parse()?).unwrap_err().number(), 51);
+    /// # Ok::<(), Box<dyn std::error::Error>>(())
     /// ```
     ///
     /// # Errors
     /// Those of [`find`](Engine::find).
-    pub fn show(&self, tag: impl AsRef<[u8]>) -> Result<&[u8; SLOT_BYTES], Refusal> {
-        let position = self.find(tag)?;
+    pub fn show(&self, tag: Tag) -> Result<&[u8; SLOT_BYTES], Refusal> {
+        self.find(tag).map(|position| self.slot(position))
+    }
+
+    /// The slot of the block at a position of the chain, by its links.
+    fn slot(&self, position: Position) -> &[u8; SLOT_BYTES] {
         let (slots, _) = self.image[HEADER_BYTES..].as_chunks();
         let slot = |number: u8| &slots[usize::from(number) - 1];
-        let mut shown: &[u8; SLOT_BYTES] = slot(self.image[HEAD]);
-        for _ in 1..position {
-            shown = slot(shown[NEXT]);
+        let mut found: &[u8; SLOT_BYTES] = slot(self.image[HEAD]);
+        for _ in 0..position.index() {
+            found = slot(found[NEXT]);
         }
-        Ok(shown)
+        found
     }
 }

@@ -1,5 +1,7 @@
 //! State record, frame entry, report entry and journal event as values, and as bytes.
 
+use crate::Position;
+
 /// Bytes of a state record, one a block.
 pub const RECORD_BYTES: usize = 32;
 
@@ -15,9 +17,14 @@ pub const EVENT_BYTES: usize = 8;
 /// The greatest number of pieces of an entry.
 pub const MAX_PIECES: usize = 4;
 
-/// Bytes of a piece, and the place of the first in its entry.
-const PIECE_BYTES: usize = 8;
+/// Bytes of a piece of a frame entry.
+pub const PIECE_BYTES: usize = 8;
+
+/// The place of the first piece in its entry.
 const FIRST_PIECE: usize = 24;
+
+/// The error code of a job that was not over within its time-out; other codes are those of the replies.
+pub const CODE_TIME_OUT: u16 = 1;
 
 /// The bytes at a place.
 fn bytes<const N: usize>(from: &[u8], at: usize) -> [u8; N] {
@@ -439,8 +446,8 @@ impl EventKind {
 pub struct Event {
     /// What happened.
     pub kind: EventKind,
-    /// The position of the block, from 1.
-    pub position: u8,
+    /// The position of the block.
+    pub position: Position,
     /// The error code of a failed job, else 0; 1 is its time-out.
     pub code: u16,
     /// The job.
@@ -448,12 +455,12 @@ pub struct Event {
 }
 
 impl Event {
-    /// The event in these bytes, `None` if there is no such kind.
+    /// The event in these bytes, `None` if there is no such kind or position.
     pub fn decode(from: &[u8; EVENT_BYTES]) -> Option<Event> {
         let kind = usize::from(from[0]).checked_sub(1)?;
         Some(Event {
             kind: *EventKind::ALL.get(kind)?,
-            position: from[1],
+            position: Position::new(usize::from(from[1]))?,
             code: u16_at(from, 2),
             job: u32_at(from, 4),
         })
@@ -462,7 +469,7 @@ impl Event {
     /// The bytes of the event.
     pub fn encode(&self) -> [u8; EVENT_BYTES] {
         let mut to = [0; EVENT_BYTES];
-        put(&mut to, 0, &[self.kind.number(), self.position]);
+        put(&mut to, 0, &[self.kind.number(), self.position.byte()]);
         put(&mut to, 2, &self.code.to_le_bytes());
         put(&mut to, 4, &self.job.to_le_bytes());
         to

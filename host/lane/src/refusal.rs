@@ -1,5 +1,6 @@
 //! Why a call was turned back, and where.
 
+use crate::{Position, MAX_BLOCKS};
 use std::error::Error;
 use std::fmt;
 
@@ -24,13 +25,14 @@ pub struct Refusal {
 
 /// Where a check failed.
 #[derive(Clone, Copy, Debug, PartialEq, Eq, Hash)]
+#[non_exhaustive]
 pub enum Place {
     /// The check names no slot or position.
     Unnamed,
     /// A slot of the table image, from 1.
-    Slot(u32),
-    /// A block by its position in the chain, from 1.
-    Position(u32),
+    Slot(u8),
+    /// A block by its position in the chain.
+    Position(Position),
 }
 
 impl Refusal {
@@ -51,10 +53,11 @@ impl Refusal {
 
     /// The place, by what the check counts: slots of the table, or positions of the chain.
     pub const fn place(self) -> Place {
-        match (self.number, self.place) {
-            (_, 0) => Place::Unnamed,
-            (1..=11, slot) => Place::Slot(slot),
-            (_, position) => Place::Position(position),
+        let place = self.place as usize;
+        match (self.number, Position::new(place)) {
+            (5..=11, _) if 1 <= place && place <= MAX_BLOCKS => Place::Slot(place as u8),
+            (21 | 31, Some(position)) => Place::Position(position),
+            _ => Place::Unnamed,
         }
     }
 

@@ -13,13 +13,14 @@ pub struct Outcome {
 
 impl Engine {
     /// A fresh state of the table: every block Dormant.
-    ///
-    /// # Errors
-    /// None that an accepted table can give.
-    pub fn fresh(&self) -> Result<State, Refusal> {
+    pub fn fresh(&self) -> State {
         let mut state = State::from_bytes(&vec![0; RECORD_BYTES * self.blocks()]);
-        ffi::fresh(self.image(), state.as_bytes_mut())?;
-        Ok(state)
+        let made = ffi::fresh(self.image(), state.as_bytes_mut());
+        debug_assert!(
+            made.is_ok(),
+            "an accepted table has a fresh state: {made:?}"
+        );
+        state
     }
 
     /// A frame that starts nothing, to be filled in.
@@ -30,11 +31,12 @@ impl Engine {
     /// Runs one scan: every block is called once, in chain order.
     ///
     /// ```
-    /// use lane::{image, Block, Engine, Entry, EventKind, Kind, Piece, Reply, Step, Tag};
+    /// use lane::{image, Block, Engine, Entry, EventKind, Kind, Piece, Reply, Step};
     ///
-    /// let lane0 = Block::new(Kind::ETrigTo, Tag::new("LANE0").unwrap());
-    /// let engine = Engine::new(&image(&[lane0]))?;
-    /// let mut state = engine.fresh()?;
+    /// let tag = "LANE0".parse()?;
+    /// let engine = Engine::new(&image(&[Block::new(Kind::ETrigTo, tag)]))?;
+    /// let lane0 = engine.find(tag)?;
+    /// let mut state = engine.fresh();
     /// let mut frame = engine.frame();
     /// let mut entry = Entry {
     ///     start: true,
@@ -44,27 +46,27 @@ impl Engine {
     ///     pieces: [Piece::new(Reply::Working, 4)].into(),
     ///     ..Entry::default()
     /// };
-    /// frame.set(1, &entry);
+    /// frame.set(lane0, &entry);
     /// let outcome = engine.scan(&mut state, &frame)?;
-    /// assert_eq!(outcome.report.entry(1).unwrap().step, Step::Executing);
-    /// assert_eq!(state.record(1).unwrap().elapsed, 10);
+    /// assert_eq!(outcome.report.entry(lane0).unwrap().step, Step::Executing);
+    /// assert_eq!(state.record(lane0).unwrap().elapsed, 10);
     ///
     /// // The reply comes too late: the job fails with code 1.
     /// entry.clock = 95;
     /// entry.pieces = [Piece::new(Reply::Complete, 95)].into();
-    /// frame.set(1, &entry);
+    /// frame.set(lane0, &entry);
     /// let outcome = engine.scan(&mut state, &frame)?;
     /// let event = outcome.journal.events().next().unwrap();
     /// assert_eq!((event.kind, event.code, event.job), (EventKind::Failed, 1, 7));
     ///
     /// // A frame out of form is turned back, and the state stays.
     /// entry.abort_reply = Reply::Error(1);
-    /// frame.set(1, &entry);
+    /// frame.set(lane0, &entry);
     /// let before = state.clone();
     /// let refusal = engine.scan(&mut state, &frame).unwrap_err();
     /// assert_eq!(refusal.to_string(), "refused 31 at position 1: its frame entry is out of form");
     /// assert_eq!(state, before);
-    /// # Ok::<(), lane::Refusal>(())
+    /// # Ok::<(), Box<dyn std::error::Error>>(())
     /// ```
     ///
     /// # Errors

@@ -1,6 +1,8 @@
 //! Blocks, and the table image that holds them.
 
+use std::error::Error;
 use std::fmt;
+use std::str::FromStr;
 
 /// Bytes of an image's header.
 pub const HEADER_BYTES: usize = 4;
@@ -8,12 +10,16 @@ pub const HEADER_BYTES: usize = 4;
 /// Bytes of one slot.
 pub const SLOT_BYTES: usize = 16;
 
+/// Bytes of a tag.
+pub const TAG_BYTES: usize = 8;
+
 /// The greatest number of blocks, and of slots.
 pub const MAX_BLOCKS: usize = 64;
 
 /// The kind of a block, by its PLCopen name: A abort input, TI time limit, To time-out,
 /// C continuous.
 #[derive(Clone, Copy, Debug, PartialEq, Eq, Hash)]
+#[non_exhaustive]
 #[repr(u8)]
 pub enum Kind {
     /// Edge triggered.
@@ -48,7 +54,7 @@ pub enum Kind {
 
 impl Kind {
     /// All kinds, in the order of their numbers.
-    pub const ALL: [Kind; 14] = [
+    pub const ALL: &'static [Kind] = &[
         Kind::ETrig,
         Kind::ETrigTI,
         Kind::ETrigTo,
@@ -71,34 +77,61 @@ impl Kind {
     }
 }
 
-/// A tag in its form: one or more of A-Z and 0-9, then spaces to eight bytes.
+/// A tag in its form: one or more of A-Z and 0-9, then spaces to eight bytes. As text it has no spaces.
 ///
 /// ```
 /// use lane::Tag;
 ///
-/// assert_eq!(Tag::new("LANE0").unwrap().as_ref(), b"LANE0   ");
-/// assert_ne!(Tag::new("LANE0"), Tag::new("LANEO"));
-/// assert_eq!(Tag::new("lane0"), None);
-/// assert_eq!(Tag::new("LANE00001"), None);
+/// let tag: Tag = "LANE0".parse()?;
+/// assert_eq!(tag.as_bytes(), b"LANE0   ");
+/// assert_eq!(tag.to_string(), "LANE0");
+/// assert_ne!(tag, "LANEO".parse()?);
+/// for text in ["", "lane0", "LANE 0", "LANE00001"] {
+///     assert!(text.parse::<Tag>().is_err());
+/// }
+/// # Ok::<(), lane::TagError>(())
 /// ```
 #[derive(Clone, Copy, Debug, PartialEq, Eq, Hash, PartialOrd, Ord)]
-pub struct Tag([u8; 8]);
+pub struct Tag([u8; TAG_BYTES]);
 
 impl Tag {
-    /// The tag with this name, 1 to 8 of A-Z and 0-9.
-    pub fn new(name: &str) -> Option<Tag> {
-        let mut bytes = [b' '; 8];
-        bytes
-            .get_mut(..name.len())?
-            .copy_from_slice(name.as_bytes());
-        let formed = |byte: u8| byte.is_ascii_uppercase() || byte.is_ascii_digit();
-        (!name.is_empty() && name.bytes().all(formed)).then_some(Tag(bytes))
+    /// The tag in these bytes, `None` if they are out of form.
+    pub fn from_bytes(bytes: [u8; TAG_BYTES]) -> Option<Tag> {
+        let formed = |byte: &u8| byte.is_ascii_uppercase() || byte.is_ascii_digit();
+        let name = bytes.iter().take_while(|byte| formed(byte)).count();
+        let spaces = bytes[name..].iter().all(|&byte| byte == b' ');
+        (name > 0 && spaces).then_some(Tag(bytes))
+    }
+
+    /// Its eight bytes.
+    pub const fn as_bytes(&self) -> &[u8; TAG_BYTES] {
+        &self.0
     }
 }
 
-impl AsRef<[u8]> for Tag {
-    fn as_ref(&self) -> &[u8] {
-        &self.0
+/// A text that is no tag.
+#[derive(Clone, Copy, Debug, PartialEq, Eq, Hash)]
+#[non_exhaustive]
+pub struct TagError;
+
+impl fmt::Display for TagError {
+    fn fmt(&self, f: &mut fmt::Formatter<'_>) -> fmt::Result {
+        f.write_str("a tag is 1 to 8 of A-Z and 0-9")
+    }
+}
+
+impl Error for TagError {}
+
+impl FromStr for Tag {
+    type Err = TagError;
+
+    /// The tag with this name, 1 to 8 of A-Z and 0-9.
+    fn from_str(name: &str) -> Result<Tag, TagError> {
+        let mut bytes = [b' '; TAG_BYTES];
+        let front = bytes.get_mut(..name.len()).ok_or(TagError)?;
+        front.copy_from_slice(name.as_bytes());
+        let tag = Tag::from_bytes(bytes).ok_or(TagError)?;
+        (!name.contains(' ')).then_some(tag).ok_or(TagError)
     }
 }
 
@@ -145,6 +178,7 @@ impl Wire {
     }
 
     /// The wire that reads the flag's opposite.
+    #[must_use]
     pub const fn inverted(self) -> Wire {
         Wire {
             inverted: !self.inverted,
@@ -183,6 +217,7 @@ impl Block {
     }
 
     /// The block with its start input from a wire.
+    #[must_use]
     pub const fn start(self, wire: Wire) -> Block {
         Block {
             start: Some(wire),
@@ -191,6 +226,7 @@ impl Block {
     }
 
     /// The block with its abort input from a wire.
+    #[must_use]
     pub const fn abort(self, wire: Wire) -> Block {
         Block {
             abort: Some(wire),
@@ -211,7 +247,7 @@ impl Block {
             abort,
             abort_code,
         ]);
-        slot[8..].copy_from_slice(self.tag.as_ref());
+        slot[8..].copy_from_slice(self.tag.as_bytes());
         slot
     }
 }

@@ -28,6 +28,9 @@ extern "C" {
 /// assert_eq!(state, [0; 32]);
 /// assert_eq!(lane::ffi::fresh(&image, &mut state[1..]).unwrap_err().number(), 20);
 /// ```
+///
+/// # Errors
+/// Refusals 1 to 11, then 20 if the state's length is not 32 bytes a block.
 pub fn fresh(image: &[u8], state: &mut [u8]) -> Result<u32, Refusal> {
     // SAFETY: pointers and lengths are those of slices borrowed for the whole call. The one that the
     // function writes is borrowed as mutable, so it shares no byte with the other.
@@ -48,6 +51,9 @@ pub fn fresh(image: &[u8], state: &mut [u8]) -> Result<u32, Refusal> {
 /// assert_eq!(journal[..8], [1, 1, 0, 0, 7, 0, 0, 0]);
 /// assert_eq!(report, [1, 0, 2, 1, 0, 0, 0, 0, 7, 0, 0, 0]);
 /// ```
+///
+/// # Errors
+/// Refusals 1 to 11, then 20 to 41 by the state, the frame, the report and the journal.
 pub fn scan(
     image: &[u8],
     state: &mut [u8],

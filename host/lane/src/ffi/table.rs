@@ -17,6 +17,9 @@ extern "C" {
 /// assert_eq!(lane::ffi::check(&image), Ok(0));
 /// assert_eq!(lane::ffi::check(&[]).unwrap_err().number(), 1);
 /// ```
+///
+/// # Errors
+/// Refusals 1 to 11.
 pub fn check(image: &[u8]) -> Result<u32, Refusal> {
     // SAFETY: the pointer and the length are those of a slice borrowed for the whole call, in
     // which the function only reads.
@@ -33,6 +36,9 @@ pub fn check(image: &[u8]) -> Result<u32, Refusal> {
 /// image[0] = 2;
 /// assert_eq!(lane::ffi::find(&image, b"LANE0").unwrap_err().number(), 2);
 /// ```
+///
+/// # Errors
+/// Refusals 1 to 11, then 50 if the tag is not eight bytes in form and 51 if no block has it.
 pub fn find(image: &[u8], tag: &[u8]) -> Result<u32, Refusal> {
     // SAFETY: the pointers and the lengths are those of slices borrowed for the whole call, in
     // which the function only reads.

@@ -1,0 +1,152 @@
+//! The C header is held to the binding: every constant that it defines, what its functions say of an answer,
+//! the slot of each position, and every field that its readers and writers read and write.
+//!
+//! `header.c` shows what the header says; the C compiler (`CC`, or `cc`) compiles it here.
+
+mod constants;
+mod parts;
+
+use compare::rng::{settings, Rng};
+use compare::tables::{Size, Table};
+use compare::text::slice;
+use lane::{Place, Refusal};
+use std::collections::BTreeMap;
+use std::env;
+use std::fs::{self, File};
+use std::path::{Path, PathBuf};
+use std::process::Command;
+use std::sync::OnceLock;
+
+const HEADER: &str = include_str!("../../../../include/lane.h");
+
+/// A folder to write in.
+const FOLDER: &str = env!("CARGO_TARGET_TMPDIR");
+
+/// Compiles a program of this folder, with all warnings that the header is free of.
+fn compile(name: &str, archive: Option<PathBuf>) -> PathBuf {
+    let here = Path::new(env!("CARGO_MANIFEST_DIR"));
+    let program = Path::new(FOLDER).join(name);
+    let status = Command::new(env::var_os("CC").unwrap_or_else(|| "cc".into()))
+        .args(["-std=c99", "-Wall", "-Wextra", "-Wpedantic", "-Werror"])
+        .args(["-Wconversion", "-Wsign-conversion", "-I"])
+        .arg(here.join("../../include"))
+        .args(["-I", FOLDER, "-o"])
+        .arg(&program)
+        .arg(here.join("tests/header").join(name).with_extension("c"))
+        .args(archive)
+        .status();
+    assert!(status.is_ok_and(|status| status.success()), "{name}.c");
+    program
+}
+
+/// The names that the header defines: macros with a value, and constants of enums.
+fn names() -> Vec<&'static str> {
+    let defined = |line: &'static str| {
+        let line = line.trim_start();
+        let line = line.strip_prefix("#define ").unwrap_or(line);
+        let (name, rest) = line.split_once(' ')?;
+        let value = rest.trim_start_matches("= ").chars().next()?;
+        (name.starts_with("LANE_") && value.is_ascii_digit()).then_some(name)
+    };
+    HEADER.lines().filter_map(defined).collect()
+}
+
+/// The program that shows what the header says.
+fn program() -> &'static PathBuf {
+    static PROGRAM: OnceLock<PathBuf> = OnceLock::new();
+    PROGRAM.get_or_init(|| {
+        let names: String = names().iter().map(|name| format!("X({name})\n")).collect();
+        fs::write(Path::new(FOLDER).join("names.inc"), names).expect("a folder to write in");
+        compile("header", None)
+    })
+}
+
+/// What the header makes of these lines: its constants, and a line for each.
+fn shown(test: &str, lines: &[String]) -> (BTreeMap<String, u64>, Vec<String>) {
+    let input = Path::new(FOLDER).join(test).with_extension("txt");
+    let text: String = lines.iter().map(|line| format!("{line}\n")).collect();
+    fs::write(&input, text).expect("a folder to write in");
+    let output = Command::new(program())
+        .stdin(File::open(input).expect("the lines"))
+        .output()
+        .expect("the program runs");
+    assert!(output.status.success(), "{test}: {output:?}");
+    let text = String::from_utf8(output.stdout).expect("plain text");
+    let (constants, shown) = text.split_once("\n\n").expect("a line between");
+    let constants = constants.lines().map(|line| {
+        let (name, value) = line.split_once(' ').expect("NAME VALUE");
+        (name.to_owned(), value.parse().expect("a number"))
+    });
+    let shown: Vec<String> = shown.lines().map(str::to_owned).collect();
+    assert_eq!(lines.len(), shown.len(), "{test}");
+    (constants.collect(), shown)
+}
+
+/// Fails unless the header makes these of the lines.
+fn expect(test: &str, cases: Vec<(String, String)>) {
+    let (lines, expected): (Vec<_>, Vec<_>) = cases.into_iter().unzip();
+    let (_, shown) = shown(test, &lines);
+    for ((line, expected), shown) in lines.iter().zip(&expected).zip(&shown) {
+        assert_eq!(shown, expected, "{line}");
+    }
+}
+
+/// The number, the place, its sort and the sentence of every refusal, and of numbers that are none.
+#[test]
+fn answers() {
+    let mut cases = Vec::new();
+    for number in 0..=120 {
+        for place in [0, 1, 64] {
+            let refusal = Refusal::new(number, place);
+            let sort = match refusal.place() {
+                Place::Slot(_) => "slot",
+                Place::Position(_) => "position",
+                _ => "",
+            };
+            let expected = match number {
+                0 => format!("1 {place} 0 0 [] the call was accepted"),
+                _ => format!("0 {place} {number} {place} [{sort}] {}", refusal.reason()),
+            };
+            cases.push((format!("answer {number} {place}"), expected));
+        }
+    }
+    expect("answers", cases);
+    let known = |number: &u32| Refusal::new(*number, 0).reason() != Refusal::new(999, 0).reason();
+    let known: Vec<u64> = (1..=120).filter(known).map(u64::from).collect();
+    let named = constants::refusals()
+        .into_iter()
+        .filter(|(name, _)| name.starts_with("REFUSED"));
+    assert!(known.into_iter().eq(named.map(|(_, number)| number)));
+}
+
+/// The slot at each position of a chain, and 0 at the others.
+#[test]
+fn slots_of_positions() {
+    let (seed, tables) = settings("slots of positions", 301, 2_000);
+    let cases = (0..tables).map(|case| {
+        let mut rng = Rng::for_case(seed, case);
+        let size = Size::any(&mut rng);
+        let table = Table::new(&mut rng, size);
+        let slot = |position: usize| position.checked_sub(1).and_then(|at| table.chain.get(at));
+        let slots = (0..=65).map(|position| format!("{} ", slot(position).unwrap_or(&0)));
+        (
+            format!("chain {}", &slice(&table.image)[1..]),
+            slots.collect(),
+        )
+    });
+    expect("slots", cases.collect());
+}
+
+/// No call takes more stack than the header says.
+#[test]
+fn stack() {
+    let default = || Path::new(env!("CARGO_MANIFEST_DIR")).join("../../target/staticlib");
+    let folder = env::var_os("LANE_LIB_DIR").map_or_else(default, PathBuf::from);
+    let program = compile("stack", Some(folder.join("liblane.a")));
+    let output = Command::new(program).output().expect("the program runs");
+    assert!(output.status.success(), "{output:?}");
+    let text = String::from_utf8(output.stdout).expect("plain text");
+    let deepest: u64 = text.trim().parse().expect("a number");
+    println!("{deepest} bytes of stack");
+    assert!((1..=lane::STACK_BYTES).contains(&deepest), "{deepest}");
+}
