@@ -1,5 +1,5 @@
--- The list of scans of specs/RunExamples.antt, computed from the bytes of the table, the lent buffer and the frames: for the reader, so that the run
--- promise is seen not to be empty.
+-- The lists of scans of specs/RunExamples.antt and specs/WireExamples.antt, computed from the bytes of the table, the lent buffer and the frames: for
+-- the reader, so that the run promise is seen not to be empty.
 use mathlib.Core.Path.{refl}
 use Rattle.kind.specs.Kind.{isKind, isEdge, hasAbort, hasTimeLimit, hasTimeOut, isContinuous}
 use Rattle.clock.specs.Clock.{since, tick, past, pastLimit, pastTimeOut}
@@ -33,10 +33,14 @@ use Rattle.engine.specs.Serve.{callIn, served, servedTo}
 use Rattle.engine.specs.Fresh.{freshOf}
 use Rattle.engine.specs.Scan.{scanBlocks, scanOf}
 use Rattle.run.specs.Scans.{flagsSeen, stateFrom, journalFrom, historyFrom}
-use Rattle.run.specs.RunExamples.{image, buffer, starts, isDone, damaged, fails, rests, isLate, isAborted, works, scans, running, answersOf, passesOf, startsOf, RunExample}
+use Rattle.run.specs.ExampleParts.{answersOf, passesOf, usedOf, startsOf}
+use Rattle.run.specs.RunExamples.{image, buffer, starts, isDone, damaged, fails, rests, isLate, isAborted, works, scans, running, RunExample}
+use Rattle.run.specs.WireExamples.{camBytes, timesOut, restarts, WireExample}
+use Rattle.run.specs.WireExamples.{image as wireImage, buffer as wireBuffer, starts as wireStarts, works as wireWorks, scans as wireScans}
 
-pub run-example : RunExample
-unfolding image buffer starts isDone damaged fails rests isLate isAborted works scans running answersOf passesOf startsOf
+computed : RunExample × WireExample
+unfolding image buffer starts isDone damaged fails rests isLate isAborted works scans running answersOf passesOf usedOf startsOf
+    wireImage wireBuffer camBytes wireStarts wireWorks timesOut restarts wireScans
     freshOf stateFrom journalFrom historyFrom scanOf scanBlocks verifyOf stateSound frameForm servedTo served callIn inputsOf flagsSeen
     checkOf verdictOf headerCheck walked walkIn unmet recordsCheck recordsFrom recordCheck tagAmong tagForm tagText tagChar padded
     spaces sameBytes sparesCheck sparesFrom allZero blocksIn blockIn positionFrom
@@ -46,5 +50,26 @@ unfolding image buffer starts isDone damaged fails rests isLate isAborted works 
     callOf callWithin rule dormant executing judge usePieces ended aborting resetting
     timerOf timeOutInForce takenTimeOut tickAll clocksOf hasStart tick since past pastLimit pastTimeOut
     isKind isEdge hasAbort hasTimeLimit hasTimeOut isContinuous
-run-example =
-    record { made = refl; answers = refl; journal = refl; passes = refl; wired = refl; state = refl; step = refl; elapsed = refl; inForce = refl }
+computed = (
+  record { made = refl; answers = refl; journal = refl; passes = refl; wired = refl; state = refl; step = refl; elapsed = refl; inForce = refl },
+  record {
+    made = refl;
+    entry = refl;
+    answers = refl;
+    journal = refl;
+    passes = refl;
+    pieces = refl;
+    gate = refl;
+    alarm = refl;
+    lamp = refl;
+    report = refl;
+    events = refl;
+    state = refl;
+  },
+)
+
+pub run-example : RunExample
+run-example = computed .0
+
+pub wire-example : WireExample
+wire-example = computed .1

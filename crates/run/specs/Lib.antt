@@ -1,3 +1,5 @@
 pub mod Scans
 pub mod RunInvariant
+pub mod ExampleParts
 pub mod RunExamples
+pub mod WireExamples

@@ -1,24 +1,22 @@
--- A list of scans over bytes, computed: each kind of finish, a refused scan in the middle, a wire, and a clock that turns. Beside the run promise, so that
+-- A list of scans over bytes, computed: each kind of finish, a refused scan in the middle, a wire, and a clock that wraps. Beside the run promise, so that
 -- what it speaks of is seen to happen.
-use Prim.Native.Nat.{ℕ}
-use mathlib.Core.Bool.{Bool, true, false}
+use Prim.Native.Nat.{ℕ, _*_}
+use mathlib.Core.Bool.{true, false}
 use mathlib.Core.List.{List, [], _∷_, _++_}
 use mathlib.Core.Path.{_≡_}
 use lib.ListN.{replicate}
-use Rattle.table.specs.Place.{Answer, value, refusal}
+use Rattle.table.specs.Place.{value, refusal}
 use Rattle.table.specs.Check.{checkedAnswer}
+use Rattle.layout.specs.Buffer.{recordLength}
 use Rattle.layout.specs.EntryLayout.{encodeEntry}
-use Rattle.layout.specs.EventLayout.{Posted}
 use Rattle.block.specs.Record.{Executing}
 use Rattle.block.specs.Event.{Start, DoneEvent, Failed, AbortedEvent, Withdrawn}
-use Rattle.block.specs.Entry.{Working, Complete, ErrorReply}
-use Rattle.block.specs.History.{History, fresh, _then_, timerOf, timeOutInForce}
-use Rattle.block.specs.declared.entry.Piece.{Piece}
+use Rattle.block.specs.History.{timerOf, timeOutInForce}
 use Rattle.block.specs.declared.entry.Entry.{Entry}
 use Rattle.engine.specs.Serve.{recordIn}
 use Rattle.engine.specs.Fresh.{freshOf}
-use Rattle.engine.specs.Scan.{scanAnswer}
-use Rattle.run.specs.Scans.{Scans, none, _andThen_, Given, stateAfter, journalOf, resultOf, historyOf}
+use Rattle.run.specs.Scans.{Scans, none, _andThen_, Given, stateAfter, journalOf, historyOf}
+use Rattle.run.specs.ExampleParts.{working, complete, failing, entryOf, scanOn, answersOf, passesOf, startsOf, at}
 
 -- Two blocks: position 1 is slot 2, of kind 7 (ETrigATo), tag PUMP; position 2 is slot 1, of kind 9 (LCon), tag FAN, its start wired to the busy flag of slot 2.
 unfoldable pub image : List ℕ
@@ -30,65 +28,46 @@ image =
 
 -- what fresh is lent
 unfoldable pub buffer : List ℕ
-buffer = replicate 64 255
-
-abbrev noPiece : Piece
-noPiece = record { reply = Working; code = 0; clock = 0 }
-
--- an entry of `count` pieces, the first as given; abort and reset reply complete
-abbrev entryOf : Bool → Bool → ℕ → ℕ → ℕ → ℕ → Piece → Entry
-entryOf start abort job timeout clock count piece =
-    record {
-      inputs = record { start = start; abort = abort };
-      count = count;
-      «abort_reply» = Complete;
-      «reset_reply» = Complete;
-      «abort_code» = 0;
-      job = job;
-      limit = 0;
-      timeout = timeout;
-      clock = clock;
-      pieces = piece ∷ noPiece ∷ noPiece ∷ noPiece ∷ [];
-    }
+buffer = replicate (2 * recordLength) 255
 
 -- the entry of FAN: its own start bit is 0, and counts for nothing
 abbrev fan : ℕ → Entry
-fan job = entryOf false false job 0 0 0 noPiece
+fan job = entryOf false false job 0 0 0 []
 
 abbrev scan : Entry → Entry → Given
-scan pump fan = record { told = record { frame = encodeEntry pump ++ encodeEntry fan }; report = replicate 24 255; journal = replicate 32 255 }
+scan pump fan = scanOn 2 (encodeEntry pump ++ encodeEntry fan)
 
 -- job 7 starts at 4,294,967,290
 unfoldable pub starts : Given
-starts = scan (entryOf true false 7 100 4294967290 1 (record { reply = Working; code = 0; clock = 4294967295 })) (fan 1)
+starts = scan (entryOf true false 7 0 100 4294967290 (working 4294967295 ∷ [])) (fan 1)
 
--- the clock turns; job 7 is done, and FAN, no longer started, is withdrawn
+-- the clock wraps; job 7 is done, and FAN, no longer started, is withdrawn
 unfoldable pub isDone : Given
-isDone = scan (entryOf false false 99 0 5 1 (record { reply = Complete; code = 0; clock = 10 })) (fan 2)
+isDone = scan (entryOf false false 99 0 0 5 (complete 10 ∷ [])) (fan 2)
 
 -- FAN's entry says five pieces: refused
 unfoldable pub damaged : Given
-damaged = scan (entryOf true false 77 0 15 0 noPiece) (entryOf true false 78 0 0 5 noPiece)
+damaged = scan (entryOf true false 77 0 0 15 []) (entryOf true false 78 0 0 0 (working 0 ∷ working 0 ∷ working 0 ∷ working 0 ∷ working 0 ∷ []))
 
 -- reset and started again in one call: job 8 fails by its reply
 unfoldable pub fails : Given
-fails = scan (entryOf true false 8 10 20 1 (record { reply = ErrorReply; code = 5; clock = 25 })) (fan 3)
+fails = scan (entryOf true false 8 0 10 20 (failing 5 25 ∷ [])) (fan 3)
 
 -- back to Dormant
 unfoldable pub rests : Given
-rests = scan (entryOf false false 0 0 30 0 noPiece) (fan 4)
+rests = scan (entryOf false false 0 0 0 30 []) (fan 4)
 
--- job 9 is complete 11 after its start, past its time-out of 10, as the clock turns
+-- job 9 is complete 11 after its start, past its time-out of 10, as the clock wraps
 unfoldable pub isLate : Given
-isLate = scan (entryOf true false 9 10 4294967290 1 (record { reply = Complete; code = 0; clock = 5 })) (fan 5)
+isLate = scan (entryOf true false 9 0 10 4294967290 (complete 5 ∷ [])) (fan 5)
 
 -- job 10 is started and aborted
 unfoldable pub isAborted : Given
-isAborted = scan (entryOf true true 10 0 50 0 noPiece) (fan 6)
+isAborted = scan (entryOf true true 10 0 0 50 []) (fan 6)
 
--- job 7 is still worked at, past the turn of the clock
+-- job 7 is still worked at, past the clock's wrap
 unfoldable pub works : Given
-works = scan (entryOf true false 99 0 5 1 (record { reply = Working; code = 0; clock = 9 })) (fan 2)
+works = scan (entryOf true false 99 0 0 5 (working 9 ∷ [])) (fan 2)
 
 unfoldable pub scans : Scans
 scans = none andThen starts andThen isDone andThen damaged andThen fails andThen rests andThen isLate andThen rests andThen isAborted
@@ -97,28 +76,10 @@ scans = none andThen starts andThen isDone andThen damaged andThen fails andThen
 unfoldable pub running : Scans
 running = none andThen starts andThen damaged andThen works
 
--- what each scan answered, in the order of the scans
-unfoldable pub answersOf : Scans → List Answer
-answersOf none = []
-answersOf (h andThen g) = answersOf h ++ (scanAnswer (resultOf image buffer h g .answer) ∷ [])
-
--- the passes of each call, as the reports state them
-unfoldable pub passesOf : History → List ℕ
-passesOf fresh = []
-passesOf (h then s) = passesOf h ++ (s .passes ∷ [])
-
--- the start input of each call, after wires
-unfoldable pub startsOf : History → List Bool
-startsOf fresh = []
-startsOf (h then s) = startsOf h ++ (s .inputs .start ∷ [])
-
-abbrev at : ℕ → ℕ → ℕ → ℕ → Posted
-at position kind code job = record { position = position; event = record { kind = kind; code = code; job = job } }
-
 -- theorem run-example, proofs/RunExamples.antt
 pub record RunExample : Type 0 where
   pub made : checkedAnswer (freshOf image buffer .answer) ≡ value 2
-  pub answers : answersOf scans
+  pub answers : answersOf image buffer scans
       ≡ value 2 ∷ value 2 ∷ refusal 31 2 ∷ value 2 ∷ value 0 ∷ value 2 ∷ value 0 ∷ value 2 ∷ []
   pub journal : journalOf image buffer scans
       ≡ at 1 Start 0 7 ∷ at 2 Start 0 1 ∷ at 1 DoneEvent 0 7 ∷ at 2 Withdrawn 0 1

@@ -1,0 +1,72 @@
+-- What the computed lists of scans are made of and read by: frame entries, what each scan answered, and what each call reported.
+use Prim.Native.Nat.{ℕ, _*_}
+use mathlib.Core.Bool.{Bool}
+use mathlib.Core.List.{List, [], _∷_, _++_}
+use lib.ListN.{length, take, replicate}
+use Rattle.table.specs.Place.{Answer}
+use Rattle.layout.specs.Buffer.{reportLength, eventLength}
+use Rattle.layout.specs.EventLayout.{Posted}
+use Rattle.block.specs.Entry.{Working, Complete, ErrorReply}
+use Rattle.block.specs.History.{History, fresh, _then_}
+use Rattle.block.specs.declared.entry.Piece.{Piece}
+use Rattle.block.specs.declared.entry.Entry.{Entry}
+use Rattle.engine.specs.Scan.{scanAnswer}
+use Rattle.run.specs.Scans.{Scans, none, _andThen_, Given, resultOf}
+
+-- a piece of each reply, with its clock
+abbrev pub working : ℕ → Piece
+working clock = record { reply = Working; code = 0; clock = clock }
+
+abbrev pub complete : ℕ → Piece
+complete clock = record { reply = Complete; code = 0; clock = clock }
+
+abbrev pub failing : ℕ → ℕ → Piece
+failing code clock = record { reply = ErrorReply; code = code; clock = clock }
+
+-- an entry that has these pieces; abort and reset reply complete
+abbrev pub entryOf : Bool → Bool → ℕ → ℕ → ℕ → ℕ → List Piece → Entry
+entryOf start abort job limit timeout clock pieces =
+    record {
+      inputs = record { start = start; abort = abort };
+      count = length pieces;
+      «abort_reply» = Complete;
+      «reset_reply» = Complete;
+      «abort_code» = 0;
+      job = job;
+      limit = limit;
+      timeout = timeout;
+      clock = clock;
+      pieces = take 4 (pieces ++ (working 0 ∷ working 0 ∷ working 0 ∷ working 0 ∷ []));
+    }
+
+-- a scan of n blocks with a report and a journal of ones
+abbrev pub scanOn : ℕ → List ℕ → Given
+scanOn n frame =
+    record {
+      told = record { frame = frame };
+      report = replicate (reportLength * n) 255;
+      journal = replicate (2 * eventLength * n) 255;
+    }
+
+-- what each scan answered, in the order of the scans
+unfoldable pub answersOf : List ℕ → List ℕ → Scans → List Answer
+answersOf image buffer none = []
+answersOf image buffer (h andThen g) = answersOf image buffer h ++ (scanAnswer (resultOf image buffer h g .answer) ∷ [])
+
+-- the passes and the pieces of each call, as the reports state them
+unfoldable pub passesOf : History → List ℕ
+passesOf fresh = []
+passesOf (h then s) = passesOf h ++ (s .passes ∷ [])
+
+unfoldable pub usedOf : History → List ℕ
+usedOf fresh = []
+usedOf (h then s) = usedOf h ++ (s .used ∷ [])
+
+-- the start input of each call, after wires
+unfoldable pub startsOf : History → List Bool
+startsOf fresh = []
+startsOf (h then s) = startsOf h ++ (s .inputs .start ∷ [])
+
+-- an event of the block at a position
+abbrev pub at : ℕ → ℕ → ℕ → ℕ → Posted
+at position kind code job = record { position = position; event = record { kind = kind; code = code; job = job } }
