@@ -23,8 +23,8 @@ use Rattle.block.specs.Executing.{timeOutOf}
 use Rattle.block.specs.Sound.{sound, zeroed, flagsFit, codeSound, requestSound, stepSound, timesSound}
 use Rattle.block.specs.Call.{Outcome, callOf, Whole}
 use Rattle.block.specs.Turns.{Turns, end, start, finish, countOf, hasStart}
-use Rattle.block.specs.History.{History, fresh, _then_, entriesOf, recordAfter, tickAll, clocksOf, timerOf, takenTimeOut, timeOutInForce}
-use Rattle.block.specs.BlockInvariant.{seenCall, Made, noCall, andCall, isOpen, openJob, flagCount, EachCall, nothing, andSeen, BlockInvariantHolds}
+use Rattle.block.specs.History.{History, fresh, _then_, eventsOf, recordAfter, tickAll, clocksOf, timerOf, takenTimeOut, timeOutInForce}
+use Rattle.block.specs.BlockInvariant.{seenCall, MachineHistory, noCall, andCall, isOpen, openJob, flagCount, EachCall, nothing, andSeen, BlockInvariantHolds}
 use Rattle.block.specs.declared.record.Record.{Record}
 use Rattle.block.specs.declared.event.Event.{Event}
 use Rattle.block.specs.declared.entry.Inputs.{Inputs}
@@ -91,14 +91,14 @@ cond-same false x y z h = h refl
 record Kept (k : ℕ) (h : History) : Type 0 where
   kind : isKind k ≡ true
   sound : sound k (recordAfter h) ≡ true
-  turns : Turns k none (entriesOf h) (openJob (recordAfter h))
+  turns : Turns k none (eventsOf h) (openJob (recordAfter h))
   calls : EachCall k h
   elapsed : recordAfter h .step ≡ Executing → recordAfter h .timer ≡ timerOf h
   stored : recordAfter h .step ≡ Executing → recordAfter h .timeout ≡ takenTimeOut k h
   inTime : recordAfter h .step ≡ Executing → timeOutInForce k h ≢ 0 → timerOf h .elapsed ≤ timeOutInForce k h
 
 kept-fresh : (k : ℕ) → isKind k ≡ true → Kept k fresh
-unfolding entriesOf recordAfter sound zeroed flagsFit codeSound requestSound stepSound timesSound
+unfolding eventsOf recordAfter sound zeroed flagsFit codeSound requestSound stepSound timesSound
 kept-fresh k h =
     record {
       kind = h;
@@ -141,7 +141,7 @@ module _ (k : ℕ) (h : History) (x : Kept k h) (i : Inputs) (e : Entry) (fits :
   in-force s = ap (λ (n : ℕ). cond (hasTimeOut k) (cond (isEdge k) n (e .timeout)) 0) (kept-stored s)
 
   kept-call : Kept k (h then seenCall k i e (recordAfter h))
-  unfolding entriesOf recordAfter
+  unfolding eventsOf recordAfter
   kept-call =
       record {
         kind = x .kind;
@@ -153,7 +153,7 @@ module _ (k : ℕ) (h : History) (x : Kept k h) (i : Inputs) (e : Entry) (fits :
         inTime = λ s n. rw (← kept-elapsed s, ← in-force s) (time s .inTime (λ z. n (sym (in-force s) ∙ z)));
       }
 
-kept : {k : ℕ} {h : History} → Made k h → Kept k h
+kept : {k : ℕ} {h : History} → MachineHistory k h → Kept k h
 kept {k} (noCall kind) = kept-fresh k kind
 kept {k} (andCall {h = h} m i e fits clock) = kept-call k h (kept m) i e fits clock
 

@@ -8,7 +8,7 @@ use lib.ListN.{length, length-append}
 use Rattle.block.specs.Entry.{entryFits}
 use Rattle.block.specs.Event.{emitted}
 use Rattle.block.specs.Rules.{pass}
-use Rattle.block.specs.Call.{Outcome, lastly, first, Call, stops, goes, callWithin, callOf, CallIsWhole, CallIsUnique}
+use Rattle.block.specs.Call.{Outcome, lastPass, passThen, Call, stops, goes, callWithin, callOf, CallIsWhole, CallIsUnique}
 use Rattle.block.specs.declared.record.Record.{Record}
 use Rattle.block.specs.declared.entry.Inputs.{Inputs}
 use Rattle.block.specs.declared.entry.Entry.{Entry}
@@ -23,12 +23,12 @@ record Ranked (k : ℕ) (i : Inputs) (e : Entry) (r : Record) (o : Outcome) : Ty
   events : length (o .events) ≤ room r
 
 module _ (k : ℕ) (i : Inputs) (e : Entry) where
-  ends : (r : Record) → Shape k (entryFits e ≡ true) r → pass k i e r .again ≡ false → Ranked k i e r (lastly (pass k i e r))
+  ends : (r : Record) → Shape k (entryFits e ≡ true) r → pass k i e r .again ≡ false → Ranked k i e r (lastPass (pass k i e r))
   ends r s h =
       let p = passed k i e s in
       record { called = stops r h; passes = rank-least r; events = let f : length (emitted (pass k i e r .event)) + 0 ≤ room r = rw h at (p .few) in omega arith }
 
-  goes-on : (r : Record) → Shape k (entryFits e ≡ true) r → pass k i e r .again ≡ true → (o : Outcome) → Ranked k i e (pass k i e r .next) o → Ranked k i e r (first (pass k i e r) o)
+  goes-on : (r : Record) → Shape k (entryFits e ≡ true) r → pass k i e r .again ≡ true → (o : Outcome) → Ranked k i e (pass k i e r .next) o → Ranked k i e r (passThen (pass k i e r) o)
   goes-on r s h o c =
       let p = passed k i e s in
       let f : length (emitted (pass k i e r .event)) + room (pass k i e r .next) ≤ room r = rw h at (p .few) in
@@ -60,7 +60,7 @@ one-outcome : {k : ℕ} {i : Inputs} {e : Entry} {r : Record} {o p : Outcome} �
 one-outcome (stops r h) (stops s g) = refl
 one-outcome (stops r h) (goes s o g c) = never (sym g ∙ h)
 one-outcome (goes r o h c) (stops s g) = never (sym h ∙ g)
-one-outcome {k} {i} {e} (goes r o h c) (goes s p g d) = ap (λ (x : Outcome). first (pass k i e r) x) (one-outcome c d)
+one-outcome {k} {i} {e} (goes r o h c) (goes s p g d) = ap (λ (x : Outcome). passThen (pass k i e r) x) (one-outcome c d)
 
 pub call-unique : CallIsUnique
 call-unique k i e r o p c d = one-outcome c d

@@ -19,7 +19,7 @@ use Rattle.block.specs.Ended.{resetDue, ended}
 use Rattle.block.specs.Aborting.{aborting}
 use Rattle.block.specs.Resetting.{resetting}
 use Rattle.block.specs.Rules.{rule, pass}
-use Rattle.block.specs.Call.{Outcome, Call, stops, goes, lastly, first, callOf, Whole}
+use Rattle.block.specs.Call.{Outcome, Call, stops, goes, lastPass, passThen, callOf, Whole}
 use Rattle.block.specs.CallResult.{outcomeOf, noPass, withPass}
 use Rattle.block.specs.declared.record.Record.{Record}
 use Rattle.block.specs.declared.entry.Inputs.{Inputs}
@@ -80,7 +80,7 @@ module _ (a : CallResult) (p : Pass) where
   Room = a .count + length (emitted (p .event)) ≤ 2
 
   -- a pass is added as the last
-  add-last : Room → outcomeOf (withPass a p) ≡ onto (outcomeOf a) (lastly p)
+  add-last : Room → outcomeOf (withPass a p) ≡ onto (outcomeOf a) (lastPass p)
   unfolding withPass
   add-last h =
       by-test (eqb (p .event .kind) 0)
@@ -95,7 +95,7 @@ module _ (a : CallResult) (p : Pass) where
       events n e = ap (λ (m : ℕ). take m (a .first ∷ a .second ∷ []) ++ (p .event ∷ [])) e
 
   -- and with the rest of the call after it
-  add-first : (o : Outcome) → Room → onto (outcomeOf (withPass a p)) o ≡ onto (outcomeOf a) (first p o)
+  add-first : (o : Outcome) → Room → onto (outcomeOf (withPass a p)) o ≡ onto (outcomeOf a) (passThen p o)
   add-first o h =
       ap (λ (x : Outcome). onto x o) (add-last h)
       ∙ λ j. record {
@@ -131,11 +131,11 @@ pub record Rest (k : ℕ) (i : Inputs) (e : Entry) (a : CallResult) (t : Outcome
   room : a .count + length (rest .events) ≤ 2
 
 module _ (k : ℕ) (i : Inputs) (e : Entry) where
-  goes-on : {r : Record} {o : Outcome} → Call k i e r o → pass k i e r .again ≡ true → (q : Outcome) × Call k i e (pass k i e r .next) q × (o ≡ first (pass k i e r) q)
+  goes-on : {r : Record} {o : Outcome} → Call k i e r o → pass k i e r .again ≡ true → (q : Outcome) × Call k i e (pass k i e r .next) q × (o ≡ passThen (pass k i e r) q)
   goes-on (stops r h) g = none (sym h ∙ g)
   goes-on (goes r q h c) g = (q, c, refl)
 
-  stops-at : {r : Record} {o : Outcome} → Call k i e r o → pass k i e r .again ≡ false → o ≡ lastly (pass k i e r)
+  stops-at : {r : Record} {o : Outcome} → Call k i e r o → pass k i e r .again ≡ false → o ≡ lastPass (pass k i e r)
   stops-at (stops r h) g = refl
   stops-at (goes r q h c) g = none (sym g ∙ h)
 
@@ -188,7 +188,7 @@ module _ (k : ℕ) (i : Inputs) (e : Entry) where
         let events : length (l .rest .events) ≡ length (emitted (p .event)) = ap (λ (x : Outcome). length (x .events)) last in
         add-last a p (omega (arith, l .room, events)) ∙ ap (onto (outcomeOf a)) (sym last) ∙ l .joined
 
-    -- a turn of the loop: the pass p is made, and added to the account
+    -- once round the loop: the pass p is made, and added to the account
     module _ (p : Pass) (is : p ≡ pass k i e (a .next)) where
       pub rest-fits : e .count ≤ mostPieces → (a .used + p .used < 256) × (a .passes < 6)
       rest-fits h =

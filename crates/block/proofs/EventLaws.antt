@@ -1,4 +1,4 @@
--- The events of a call from a sound record, with an entry in form: none, a start, a finish, or a start and the finish of its job; they take
+-- The events of a call from a sound record, with a frame entry in form: none, a start, a finish, or a start and the finish of its job; they take
 -- turns with the calls before and after, and a start has the job of the entry. For the journal of a list of scans.
 use Prim.Native.Nat.{ℕ, _+_, _≤_}
 use native.Mathlib.Omega.{arith}
@@ -85,7 +85,8 @@ settled-open (shows isAborted f x) = refl
 settled-open (resets z f x) = refl
 settled-open (withdraws a x) = refl
 
-pub call-turns : {k : ℕ} {i : Inputs} {e : Entry} {r : Record} {o : Outcome} → entryFits e ≡ true → sound k r ≡ true → Call k i e r o → Turns k (openJob r) (o .events) (openJob (o .next))
+pub call-turns : {k : ℕ} {i : Inputs} {e : Entry} {r : Record} {o : Outcome} → entryFits e ≡ true → sound k r ≡ true → Call k i e r o
+    → Turns k (openJob r) (o .events) (openJob (o .next))
 call-turns {k} {i} {e} {r} {o} fits h c =
     let s = settled-of k (entryFits e ≡ true) r h in
     rw (settled-open (call-settled (settled s) c)) at (rw (settled-open s) at (events (settled s) c .turns fits))

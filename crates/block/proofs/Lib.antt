@@ -12,3 +12,4 @@ pub mod TimeLaws
 pub mod Locality
 pub mod BlockInvariant
 pub mod WorkedExamples
+pub mod CallExamples

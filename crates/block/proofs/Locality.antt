@@ -7,7 +7,7 @@ use Rattle.block.specs.Record.{Dormant}
 use Rattle.block.specs.Dormant.{dormant}
 use Rattle.block.specs.Rules.{rule, pass}
 use Rattle.block.specs.Pass.{stop}
-use Rattle.block.specs.Call.{lastly, unchanged, callWithin, callOf}
+use Rattle.block.specs.Call.{lastPass, unchanged, callWithin, callOf}
 use Rattle.block.specs.declared.record.Record.{Record}
 use Rattle.block.specs.declared.entry.Inputs.{Inputs}
 use Rattle.block.specs.declared.entry.Entry.{Entry}
@@ -26,4 +26,4 @@ pub idle-call : (k : ℕ) (i : Inputs) (e : Entry) (r : Record) → r .step ≡ 
 unfolding callOf callWithin
 idle-call k i e r h g =
     let p = idle-pass k i e r h g in
-    off (pass k i e r .again) _ _ (ap (λ (q : Pass). q .again) p) ∙ ap lastly p
+    off (pass k i e r .again) _ _ (ap (λ (q : Pass). q .again) p) ∙ ap lastPass p

@@ -33,7 +33,8 @@ use Rattle.block.specs.declared.pass.Pass.{Pass}
 use Rattle.membership.proofs.Logic.{by-test, and-left, and-right}
 use Rattle.block.proofs.Tests.{choose, never, or-right, each}
 use Rattle.block.proofs.Tests.{none as no-case}
-use Rattle.block.proofs.Shapes.{End, isDone, isError, isAborted, endStep, endFlags, busy, rec, timesFit, errorCode, EndFits, Settled, idle, runs, aborts, shows, resets, withdraws, Shape, settled, unshown}
+use Rattle.block.proofs.Shapes.{End, isDone, isError, isAborted, endStep, endFlags, busy, rec, timesFit, errorCode, EndFits}
+use Rattle.block.proofs.Shapes.{Settled, idle, runs, aborts, shows, resets, withdraws, Shape, settled, unshown}
 use Rattle.block.proofs.WorkLaws.{coded, form, Worked, worked-laws}
 
 -- the most passes that can still come
@@ -165,9 +166,15 @@ module _ (k : ℕ) (i : Inputs) (e : Entry) where
     leaving : (z : End) (c : ℕ) (v : Work) (p : Pass) → p ≡ goOn (v .used) (rec (endStep z) busy false j c l t (v .timer)) → leb (v .timer .elapsed) mostElapsed ≡ true
         → EndFits k (entryFits e ≡ true) z false c → Passed k e run p
     unfolding rank room openIn hasStart
-    leaving isDone c v p h g f = rw h (going run _ refl (unshown isDone f (read-times k l t w (v .timer) g x)) (λ _. end) nothing (λ _. refl) (omega arith) (omega arith) (leaves (omega arith)))
-    leaving isError c v p h g f = rw h (going run _ refl (unshown isError f (read-times k l t w (v .timer) g x)) (λ _. end) nothing (λ _. refl) (omega arith) (omega arith) (leaves (omega arith)))
-    leaving isAborted c v p h g f = rw h (going run _ refl (unshown isAborted f (read-times k l t w (v .timer) g x)) (λ _. end) nothing (λ _. refl) (omega arith) (omega arith) (leaves (omega arith)))
+    leaving isDone c v p h g f =
+        let shape = unshown isDone f (read-times k l t w (v .timer) g x) in
+        rw h (going run _ refl shape (λ _. end) nothing (λ _. refl) (omega arith) (omega arith) (leaves (omega arith)))
+    leaving isError c v p h g f =
+        let shape = unshown isError f (read-times k l t w (v .timer) g x) in
+        rw h (going run _ refl shape (λ _. end) nothing (λ _. refl) (omega arith) (omega arith) (leaves (omega arith)))
+    leaving isAborted c v p h g f =
+        let shape = unshown isAborted f (read-times k l t w (v .timer) g x) in
+        rw h (going run _ refl shape (λ _. end) nothing (λ _. refl) (omega arith) (omega arith) (leaves (omega arith)))
 
     from-judge : (v : Work) → Worked e w v → Passed k e run (judge (isContinuous k) (timeOutOf k e run) v run)
     unfolding judge rank room openIn hasStart
@@ -206,7 +213,9 @@ module _ (k : ℕ) (i : Inputs) (e : Entry) where
     unfolding aborting rank room openIn hasStart admits
     from-aborts a =
         choose (Passed k e abt) (eqb (e .«abort_reply») ErrorReply) _ _
-        (λ h. going abt _ refl (unshown isError (λ f. code-two k (e .«abort_code») (coded (e .«abort_reply») (e .«abort_code») (form e f .abort) h)) x) (λ _. end) nothing (λ _. refl) (omega arith) (omega arith) (leaves (omega arith)))
+        (λ h.
+        let shape = unshown isError (λ f. code-two k (e .«abort_code») (coded (e .«abort_reply») (e .«abort_code») (form e f .abort) h)) x in
+        going abt _ refl shape (λ _. end) nothing (λ _. refl) (omega arith) (omega arith) (leaves (omega arith)))
         (λ _. choose (Passed k e abt) (eqb (e .«abort_reply») Complete) _ _
         (λ _. choose (Passed k e abt) (isEdge k) _ _
         (λ h. going abt _ refl (unshown isAborted (refl, a h) x) (λ _. end) nothing (λ _. refl) (omega arith) (omega arith) (leaves (omega arith)))

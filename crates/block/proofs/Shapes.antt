@@ -140,14 +140,18 @@ module _ (k : ℕ) (F : Type 0) where
   end-fits : (z : End) (n : ℕ) (q : Bool) (j c l t : ℕ) (w : Timer) → Parts k (rec n (endFlags z) q j c l t w) → EndFits k F z q c
   unfolding codeSound requestSound stepSound
   end-fits isDone n q j c l t w p =
-      let s = each (implies (eqb n Done || true) (not (isContinuous k))) (implies (eqb n Aborting) (canAbort k) ∷ implies (eqb n Aborted || false) (hasAbort k) ∷ leb n Resetting ∷ []) (p .step) in (
+      let s =
+      each (implies (eqb n Done || true) (not (isContinuous k)))
+      (implies (eqb n Aborting) (canAbort k) ∷ implies (eqb n Aborted || false) (hasAbort k) ∷ leb n Resetting ∷ []) (p .step) in (
         code-zero c (and-left (Bool·beq (not (eqb c 0)) false) (implies (eqb c TimedOut) (hasTimeOut k)) (p .code)),
         not-true (isContinuous k) (due (eqb n Done) (not (isContinuous k)) (s .0)),
         λ g. not-true q (rw g at (p .request)),
       )
   end-fits isError n q j c l t w p = λ f. rw beq-on at (p .code)
   end-fits isAborted n q j c l t w p =
-      let s = each (implies (eqb n Done || false) (not (isContinuous k))) (implies (eqb n Aborting) (canAbort k) ∷ implies (eqb n Aborted || true) (hasAbort k) ∷ leb n Resetting ∷ []) (p .step) in (
+      let s =
+      each (implies (eqb n Done || false) (not (isContinuous k)))
+      (implies (eqb n Aborting) (canAbort k) ∷ implies (eqb n Aborted || true) (hasAbort k) ∷ leb n Resetting ∷ []) (p .step) in (
         code-zero c (and-left (Bool·beq (not (eqb c 0)) false) (implies (eqb c TimedOut) (hasTimeOut k)) (p .code)),
         due (eqb n Aborted) (hasAbort k) (s .1 .1 .0),
       )
@@ -234,7 +238,10 @@ module _ (k : ℕ) (F : Type 0) where
   unfolding Reads stepSound
   settled-of r h =
       let p = parts k r h in
-      let s = each (implies (eqb (r .step) Done || r .flags .done) (not (isContinuous k))) (implies (eqb (r .step) Aborting) (canAbort k) ∷ implies (eqb (r .step) Aborted || r .flags .aborted) (hasAbort k) ∷ leb (r .step) Resetting ∷ []) (p .step) in
+      let n = r .step in
+      let s =
+      each (implies (eqb n Done || r .flags .done) (not (isContinuous k)))
+      (implies (eqb n Aborting) (canAbort k) ∷ implies (eqb n Aborted || r .flags .aborted) (hasAbort k) ∷ leb n Resetting ∷ []) (p .step) in
       to-six (λ n. Reads n (r .flags) (r .request) (r .job) (r .code) (r .limit) (r .timeout) (r .timer)) (r .step) (s .1 .1 .1)
       (at-dormant (r .request) (r .job) (r .code) (r .limit) (r .timeout) (r .timer) (r .flags))
       (at-executing (r .request) (r .job) (r .code) (r .limit) (r .timeout) (r .timer) (r .flags))

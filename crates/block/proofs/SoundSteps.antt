@@ -1,6 +1,7 @@
 -- Soundness at each step, as the few tests that are left there. For the functions of `sound`.
 use Prim.Native.Nat.{ℕ}
 use mathlib.Core.Bool.{Bool, true, false, not, _&&_, _||_, Bool·beq}
+use mathlib.Core.Logic.{_≢_}
 use mathlib.Core.Path.{_≡_, refl, ap, sym, _∙_}
 use lib.Dec.{eqb, leb}
 use borrow.Author.Tests.{eqb-true}
@@ -188,7 +189,8 @@ module _ (k : ℕ) (r : Record) where
   pub at-aborting : sound k (atStep Aborting r) ≡ canAbort k && sound k (atStep Executing r)
   unfolding sound flagsFit codeSound requestSound stepSound timesSound
   at-aborting =
-      plain (flagsFit k Executing (r .flags) && codeSound k r && requestSound k r) (implies (r .flags .done) (not (isContinuous k))) (canAbort k) (implies (r .flags .aborted) (hasAbort k)) (timesSound k r)
+      plain (flagsFit k Executing (r .flags) && codeSound k r && requestSound k r)
+      (implies (r .flags .done) (not (isContinuous k))) (canAbort k) (implies (r .flags .aborted) (hasAbort k)) (timesSound k r)
     where
       plain : (front done can aborted times : Bool) → front && (done && can && aborted && true) && times ≡ can && (front && (done && true && aborted && true) && times)
       plain front done true aborted times = refl
@@ -209,8 +211,8 @@ module _ (k : ℕ) (r : Record) where
   resetting-aborted = reset-aborted k (r .job) (r .limit) (r .timeout) (r .timer) (r .request) (r .code) (r .flags .busy) (r .flags .done) (r .flags .error) (r .flags .aborted)
 
   -- "Step is at most 6"
-  pub no-step : (r .step ≡ Dormant → ⊥) → (r .step ≡ Executing → ⊥) → (r .step ≡ Done → ⊥) → (r .step ≡ Error → ⊥) → (r .step ≡ Aborting → ⊥) → (r .step ≡ Aborted → ⊥)
-      → (r .step ≡ Resetting → ⊥) → sound k r ≡ false
+  pub no-step : r .step ≢ Dormant → r .step ≢ Executing → r .step ≢ Done → r .step ≢ Error → r .step ≢ Aborting → r .step ≢ Aborted
+      → r .step ≢ Resetting → sound k r ≡ false
   unfolding sound stepSound
   no-step dormant executing done error aborting aborted resetting =
       by-test (leb (r .step) Resetting)

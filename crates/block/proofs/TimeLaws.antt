@@ -16,7 +16,7 @@ use Rattle.block.specs.Dormant.{timeOutTaken}
 use Rattle.block.specs.Executing.{timeOutOf}
 use Rattle.block.specs.Sound.{sound}
 use Rattle.block.specs.Rules.{pass}
-use Rattle.block.specs.Call.{Outcome, first, Call, stops, goes}
+use Rattle.block.specs.Call.{Outcome, passThen, Call, stops, goes}
 use Rattle.block.specs.Turns.{hasStart}
 use Rattle.block.specs.History.{tickAll, clocksOf}
 use Rattle.block.specs.declared.record.Record.{Record}
@@ -46,7 +46,7 @@ rank-executing r h = rw h
 
 module _ (k : ℕ) (i : Inputs) (e : Entry) (fits : e .clock < clockModulus) where
   -- a pass that goes on, and the rest of the call after it
-  joined : (r : Record) (p : Pass) (o : Outcome) → Goes k e r p → Events k e (p .next) o → Timing k e (p .next) o → Timing k e r (first p o)
+  joined : (r : Record) (p : Pass) (o : Outcome) → Goes k e r p → Events k e (p .next) o → Timing k e (p .next) o → Timing k e r (passThen p o)
   unfolding hasStart
   joined r p o (starts u v t w n) x y =
       let q : hasStart (o .events) ≡ false = x .quiet (omega arith) in

@@ -84,7 +84,9 @@ pub record Form (e : Entry) : Type 0 where
 pub form : (e : Entry) → entryFits e ≡ true → Form e
 unfolding entryFits
 form e h =
-    let p = each (leb (e .count) mostPieces) (leb (e .«abort_reply») ErrorReply ∷ leb (e .«reset_reply») Complete ∷ codeFits (e .«abort_reply») (e .«abort_code») ∷ piecesFit (e .count) 0 (e .pieces) ∷ []) h in
+    let code = codeFits (e .«abort_reply») (e .«abort_code») in
+    let replies = leb (e .«abort_reply») ErrorReply ∷ leb (e .«reset_reply») Complete ∷ code ∷ piecesFit (e .count) 0 (e .pieces) ∷ [] in
+    let p = each (leb (e .count) mostPieces) replies h in
     record { abort = p .1 .1 .1 .0; pieces = p .1 .1 .1 .1 }
 
 -- the work of Executing

@@ -14,7 +14,7 @@ use Rattle.block.specs.Entry.{entryFits}
 use Rattle.block.specs.Sound.{sound}
 use Rattle.block.specs.Call.{Call, callOf}
 use Rattle.block.specs.Turns.{Turns, StartsHave, countOf}
-use Rattle.block.specs.History.{Seen, History, fresh, _then_, entriesOf, recordAfter, timerOf, takenTimeOut, timeOutInForce}
+use Rattle.block.specs.History.{Seen, History, fresh, _then_, eventsOf, recordAfter, timerOf, takenTimeOut, timeOutInForce}
 use Rattle.block.specs.declared.record.Flags.{Flags}
 use Rattle.block.specs.declared.record.Record.{Record}
 use Rattle.block.specs.declared.entry.Inputs.{Inputs}
@@ -25,10 +25,10 @@ abbrev pub seenCall : ℕ → Inputs → Entry → Record → Seen
 seenCall k i e r =
     record { before = r; inputs = i; entry = e; passes = callOf k i e r .passes; used = callOf k i e r .used; events = callOf k i e r .events; after = callOf k i e r .next }
 
--- a history that the machine made for a block of one of the fourteen kinds, fed any inputs and any entries in form whose clock is a reading
-pub data Made (k : ℕ) : History → Type 0 where
-  noCall : isKind k ≡ true → Made k fresh
-  andCall : {h : History} → Made k h → (i : Inputs) (e : Entry) → entryFits e ≡ true → e .clock < clockModulus → Made k (h then seenCall k i e (recordAfter h))
+-- a history of the machine, of a block of one of the fourteen kinds, fed any inputs and any frame entries in form whose clock is a reading
+pub data MachineHistory (k : ℕ) : History → Type 0 where
+  noCall : isKind k ≡ true → MachineHistory k fresh
+  andCall : {h : History} → MachineHistory k h → (i : Inputs) (e : Entry) → entryFits e ≡ true → e .clock < clockModulus → MachineHistory k (h then seenCall k i e (recordAfter h))
 
 -- a job is open, that is started and not finished, in Executing and Aborting
 abbrev pub isOpen : ℕ → Bool
@@ -42,7 +42,7 @@ abbrev pub flagCount : Flags → ℕ
 flagCount f = bit (f .busy) + bit (f .done) + bit (f .error) + bit (f .aborted)
 
 -- One call: it begins with the record that the call before left; it is a call by the rules, with the passes and pieces that were reported;
--- at most six passes; a start has the job of its own entry.
+-- at most six passes; a start has the job of its own frame entry.
 pub record CallSeen (k : ℕ) (r : Record) (s : Seen) : Type 0 where
   pub before : s .before ≡ r
   pub called : Call k (s .inputs) (s .entry) (s .before) (record { next = s .after; events = s .events; used = s .used; passes = s .passes })
@@ -54,11 +54,11 @@ pub data EachCall (k : ℕ) : History → Type 0 where
   andSeen : {h : History} {s : Seen} → EachCall k h → CallSeen k (recordAfter h) s → EachCall k (h then s)
 
 pub record BlockInvariant (k : ℕ) (h : History) : Type 0 where
-  -- entries take turns, each finish with its start's job; a job is open exactly in Executing and Aborting
-  pub turns : Turns k none (entriesOf h) (openJob (recordAfter h))
+  -- its events take turns, each finish with its start's job; a job is open exactly in Executing and Aborting
+  pub turns : Turns k none (eventsOf h) (openJob (recordAfter h))
   -- starts are the finishes and the open job
-  pub balance : countOf Start (entriesOf h)
-      ≡ countOf DoneEvent (entriesOf h) + countOf Failed (entriesOf h) + countOf AbortedEvent (entriesOf h) + countOf Withdrawn (entriesOf h) + bit (isOpen (recordAfter h .step))
+  pub balance : countOf Start (eventsOf h)
+      ≡ countOf DoneEvent (eventsOf h) + countOf Failed (eventsOf h) + countOf AbortedEvent (eventsOf h) + countOf Withdrawn (eventsOf h) + bit (isOpen (recordAfter h .step))
   -- no flag in Dormant, one in every other step
   pub flags : flagCount (recordAfter h .flags) ≡ cond (eqb (recordAfter h .step) Dormant) 0 1
   pub calls : EachCall k h
@@ -71,4 +71,4 @@ pub record BlockInvariant (k : ℕ) (h : History) : Type 0 where
 
 -- proved in proofs/BlockInvariant.antt
 abbrev pub BlockInvariantHolds : Type 0
-BlockInvariantHolds = (k : ℕ) (h : History) → Made k h → BlockInvariant k h
+BlockInvariantHolds = (k : ℕ) (h : History) → MachineHistory k h → BlockInvariant k h

@@ -21,12 +21,12 @@ pub record Outcome : Type 0 where
   pub passes : ℕ
 
 -- "Passes count each pass of a call, the stopping one included"
-abbrev pub lastly : Pass → Outcome
-lastly p = record { next = p .next; events = emitted (p .event); used = p .used; passes = 1 }
+abbrev pub lastPass : Pass → Outcome
+lastPass p = record { next = p .next; events = emitted (p .event); used = p .used; passes = 1 }
 
 -- a pass, and the rest of the call after it; "Pieces used count the pieces that Executing took."
-abbrev pub first : Pass → Outcome → Outcome
-first p o = record { next = o .next; events = emitted (p .event) ++ o .events; used = p .used + o .used; passes = suc (o .passes) }
+abbrev pub passThen : Pass → Outcome → Outcome
+passThen p o = record { next = o .next; events = emitted (p .event) ++ o .events; used = p .used + o .used; passes = suc (o .passes) }
 
 -- the outcome of a call whose only pass stops and changes nothing
 abbrev pub unchanged : Record → Outcome
@@ -34,14 +34,14 @@ unchanged r = record { next = r; events = []; used = 0; passes = 1 }
 
 -- A call, with no bound on its passes: "the last is the first whose rule doesn't go on again".
 pub data Call (k : ℕ) (i : Inputs) (e : Entry) : Record → Outcome → Type 0 where
-  stops : (r : Record) → pass k i e r .again ≡ false → Call k i e r (lastly (pass k i e r))
-  goes : (r : Record) (o : Outcome) → pass k i e r .again ≡ true → Call k i e (pass k i e r .next) o → Call k i e r (first (pass k i e r) o)
+  stops : (r : Record) → pass k i e r .again ≡ false → Call k i e r (lastPass (pass k i e r))
+  goes : (r : Record) (o : Outcome) → pass k i e r .again ≡ true → Call k i e (pass k i e r .next) o → Call k i e r (passThen (pass k i e r) o)
 
 -- A call computed, with at most n passes before the last. From a sound record it is the Call for n = 5: CallIsWhole.
 unfoldable pub callWithin : ℕ → ℕ → Inputs → Entry → Record → Outcome
-callWithin zero k i e r = lastly (pass k i e r)
+callWithin zero k i e r = lastPass (pass k i e r)
 callWithin (suc n) k i e r =
-    cond (pass k i e r .again) (first (pass k i e r) (callWithin n k i e (pass k i e r .next))) (lastly (pass k i e r))
+    cond (pass k i e r .again) (passThen (pass k i e r) (callWithin n k i e (pass k i e r .next))) (lastPass (pass k i e r))
 
 unfoldable pub callOf : ℕ → Inputs → Entry → Record → Outcome
 callOf k i e r = callWithin 5 k i e r

@@ -31,7 +31,16 @@ requestShown k n start = not (eqb n Done && not (isEdge k)) && not start
 
 abbrev pub shown : ℕ → Inputs → Record → Record
 shown k i r =
-    record { step = r .step; flags = flagsShown (r .step) (r .flags); request = requestShown k (r .step) (i .start); job = r .job; code = r .code; limit = r .limit; timeout = r .timeout; timer = r .timer }
+    record {
+      step = r .step;
+      flags = flagsShown (r .step) (r .flags);
+      request = requestShown k (r .step) (i .start);
+      job = r .job;
+      code = r .code;
+      limit = r .limit;
+      timeout = r .timeout;
+      timer = r .timer;
+    }
 
 -- "The first showing writes the finish event."
 abbrev pub finishEvent : Record → Event

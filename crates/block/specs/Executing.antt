@@ -60,7 +60,8 @@ abbrev pub timed : Work → Record → Record
 timed w r =
     record { step = r .step; flags = r .flags; request = r .request; job = r .job; code = r .code; limit = r .limit; timeout = r .timeout; timer = w .timer }
 
--- "error reply to Error with its code; else, To kinds, elapsed greater than the time-out, to Error with code 1; else complete to Done; all again. Else stop. Kinds 13, 14: complete ... this pass stops."
+-- "error reply to Error with its code; else, To kinds, elapsed greater than the time-out, to Error with code 1; else complete to Done; all again. Else stop.
+-- Kinds 13, 14: complete ... this pass stops."
 unfoldable pub judge : Bool → ℕ → Work → Record → Pass
 judge continuous timeout w r =
     cond (eqb (w .reply) ErrorReply) (goOn (w .used) (failedWith (w .code) (timed w r)))

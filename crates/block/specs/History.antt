@@ -33,9 +33,9 @@ pub data History : Type 0 where
   _then_ : History → Seen → History
 
 -- the events of its calls, in the order of the scans
-unfoldable pub entriesOf : History → List Event
-entriesOf fresh = []
-entriesOf (h then s) = entriesOf h ++ s .events
+unfoldable pub eventsOf : History → List Event
+eventsOf fresh = []
+eventsOf (h then s) = eventsOf h ++ s .events
 
 -- the record after the history
 unfoldable pub recordAfter : History → Record
@@ -62,7 +62,8 @@ unfoldable pub takenTimeOut : ℕ → History → ℕ
 takenTimeOut k fresh = 0
 takenTimeOut k (h then s) = cond (hasStart (s .events)) (timeOutTaken k (s .entry)) (takenTimeOut k h)
 
--- "The time-out in force is the stored one on edge To kinds, that of the block's own entry in the last accepted scan ... on level To kinds, none elsewhere"; "Before the first accepted scan no time-out is in force." The stored one is what the last start took, until the reset.
+-- "The time-out in force is the stored one on edge To kinds, that of the block's own entry in the last accepted scan ... on level To kinds, none elsewhere";
+-- "Before the first accepted scan no time-out is in force." The stored one is what the last start took, until the reset.
 unfoldable pub timeOutInForce : ℕ → History → ℕ
 timeOutInForce k fresh = 0
 timeOutInForce k (h then s) = cond (hasTimeOut k) (cond (isEdge k) (takenTimeOut k (h then s)) (s .entry .timeout)) 0

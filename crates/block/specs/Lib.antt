@@ -15,3 +15,4 @@ pub mod Turns
 pub mod History
 pub mod BlockInvariant
 pub mod WorkedExamples
+pub mod CallExamples

@@ -1,4 +1,4 @@
--- Document 01, "A list of scans": how the entries of one block in a journal take turns, and how many there are of each kind.
+-- Document 01, "A list of scans": how the events of one block in a journal take turns, and how many there are of each kind.
 use Prim.Native.Nat.{ℕ, _+_}
 use mathlib.Core.Bool.{Bool, true, false, cond, not, _&&_, _||_}
 use mathlib.Core.List.{List, [], _∷_}
@@ -19,7 +19,7 @@ admits k v =
     && (not (eqb (v .kind) AbortedEvent) || hasAbort k)
     && (not (eqb (v .kind) Withdrawn) || not (isEdge k)))
 
--- The entries of a block of kind k that had the job p open before them, if any, and has q open after them.
+-- The events of a block of kind k that had the job p open before them, if any, and has q open after them.
 -- "The entries, if any, begin with a start and take turns; the last may be a start." "a finish has the job of the start just before it"
 pub data Turns (k : ℕ) : Option ℕ → List Event → Option ℕ → Type 0 where
   end : {p : Option ℕ} → Turns k p [] p
@@ -31,7 +31,7 @@ unfoldable pub countOf : ℕ → List Event → ℕ
 countOf n [] = 0
 countOf n (v ∷ vs) = cond (eqb (v .kind) n) 1 0 + countOf n vs
 
--- some entry is a start
+-- some event is a start
 unfoldable pub hasStart : List Event → Bool
 hasStart [] = false
 hasStart (v ∷ vs) = isStart v || hasStart vs

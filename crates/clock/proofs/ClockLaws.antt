@@ -1,4 +1,4 @@
--- What the counted time means, before and after the counter's turn, as specs/Clock.antt states it, and the laws of `tick` that the block
+-- What the counted time means, before and after the counter wraps, as specs/Clock.antt states it, and the laws of `tick` that the block
 -- machine and its history use.
 use Prim.Native.Nat.{ℕ, _<_, _≤_}
 use mathlib.Core.Bool.{false}

@@ -1,4 +1,4 @@
-// Clock readings are u32 counters of microseconds that turn at 4,294,967,296. Everything that counts time goes through these names.
+// Clock readings are u32 counters of microseconds that wrap at 4,294,967,296. Everything that counts time goes through these names.
 ghost use mathlib.Core.Path.{_≡_};
 ghost use Rattle.clock.specs.Clock.{since, start, tick, past, pastLimit, pastTimeOut};
 

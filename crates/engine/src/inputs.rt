@@ -35,7 +35,7 @@ fn input_of(w: Wire, state: &[u8], bit: bool) -> bool
         return bit;
     }
     let i = position as usize - 1;
-    let flags = layout::record::flags_of(state[RECORD_BYTES * i + 1]);
+    let flags = layout::record::decode_flags(state[RECORD_BYTES * i + 1]);
     let flag = flag_of(w.flag, flags);
     if w.inverted {
         return !flag;

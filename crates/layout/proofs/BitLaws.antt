@@ -8,7 +8,7 @@ use lib.Dec.{eqb}
 use Rattle.block.specs.declared.record.Flags.{Flags}
 use Rattle.block.specs.declared.entry.Inputs.{Inputs}
 use Rattle.block.specs.Record.{bit}
-use Rattle.layout.specs.RecordLayout.{flagsByte, flagsOf}
+use Rattle.layout.specs.RecordLayout.{flagsByte, decodeFlags}
 use Rattle.layout.specs.EntryLayout.{inputsByte, decodeInputs}
 
 pub bit-le : (b : Bool) → bit b ≤ 1
@@ -29,7 +29,7 @@ pub flags-bound : (f : Flags) → flagsByte f < 16
 flags-bound f = omega (arith, bit-le (f .busy), bit-le (f .done), bit-le (f .error), bit-le (f .aborted))
 
 -- the four flags of their byte, and the byte of its flags
-four-bits : (a b c d : Bool) → flagsOf (flagsByte (record { busy = a; done = b; error = c; aborted = d })) ≡ record { busy = a; done = b; error = c; aborted = d }
+four-bits : (a b c d : Bool) → decodeFlags (flagsByte (record { busy = a; done = b; error = c; aborted = d })) ≡ record { busy = a; done = b; error = c; aborted = d }
 four-bits true true true true = refl
 four-bits true true true false = refl
 four-bits true true false true = refl
@@ -47,7 +47,7 @@ four-bits false false true false = refl
 four-bits false false false true = refl
 four-bits false false false false = refl
 
-pub flags-trip : (f : Flags) → flagsOf (flagsByte f) ≡ f
+pub flags-trip : (f : Flags) → decodeFlags (flagsByte f) ≡ f
 flags-trip f = four-bits (f .busy) (f .done) (f .error) (f .aborted)
 
 digits : (n : ℕ) → n < 16 → n / 1 % 2 + 2 * (n / 2 % 2) + 4 * (n / 4 % 2) + 8 * (n / 8 % 2) ≡ n
@@ -57,7 +57,7 @@ digits n h =
     let w : n / 8 % 2 ≡ n / 8 = mod-eq-of-lt (omega arith) in
     omega arith
 
-pub flags-back : (n : ℕ) → n < 16 → flagsByte (flagsOf n) ≡ n
+pub flags-back : (n : ℕ) → n < 16 → flagsByte (decodeFlags n) ≡ n
 flags-back n h =
     rw (
       bit-back (n / 1 % 2) (omega arith),

@@ -81,11 +81,11 @@ put-own at n s h =
     let l : length (take n (drop at s)) ≡ n = length-take-le n (drop at s) (simp length-drop (omega arith)) in
     rw (l, ← drop-drop n at s, take-append-drop n (drop at s), take-append-drop at s)
 
--- an entry ends where a later one begins, or before
+-- a part ends where a later one begins, or before
 pub size-up : (size j i : ℕ) → j < i → size * j + size ≤ size * i
 size-up size j i h = rw mul-suc at (mul-le-mul-left size h)
 
--- entries of a size: the one that was written, and any other
+-- parts of a size: the one that was written, and any other
 module _ (size i : ℕ) (v s : List ℕ) (full : length v ≡ size) (fits : size * i + size ≤ length s) where
   pub part-same : part size i (put (size * i) v s) ≡ v
   part-same =
@@ -107,7 +107,7 @@ module _ (size i : ℕ) (v s : List ℕ) (full : length v ≡ size) (fits : size
 pub part-length : (size i : ℕ) (s : List ℕ) → size * i + size ≤ length s → length (part size i s) ≡ size
 part-length size i s h = length-take-le size (drop (size * i) s) (simp length-drop (omega arith))
 
--- an entry of a buffer of zeros
+-- a part of a buffer of zeros
 pub part-zeros : (size i n : ℕ) → size * i + size ≤ n → part size i (replicate n 0) ≡ replicate size 0
 part-zeros size i n h =
     let m : ℕ = n - (size * i + size) in
@@ -166,7 +166,7 @@ put-put at v w s fits =
 pub put-next : (at n : ℕ) (v w s : List ℕ) → length v ≡ n → at + n + length w ≤ length s → put (at + n) w (put at v s) ≡ put at (v ++ w) s
 put-next at n v w s full fits = ap (λ (m : ℕ). put (at + m) w (put at v s)) (sym full) ∙ put-put at v w s (omega arith)
 
--- two buffers, one after the other: an entry of each, and a value put in each
+-- two buffers, one after the other: a part of each, and a value put in each
 pub part-left : (size i : ℕ) (x y : List ℕ) → size * i + size ≤ length x → part size i (x ++ y) ≡ part size i x
 part-left size i x y h =
     ap (take size) (drop-append-le (size * i) x y (omega arith)) ∙ take-append-le size (drop (size * i) x) y (simp length-drop (omega arith))

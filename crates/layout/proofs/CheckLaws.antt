@@ -19,7 +19,7 @@ use Rattle.block.proofs.Tests.{each}
 use Rattle.block.proofs.Shapes.{fresh-is}
 use Rattle.block.proofs.SoundSteps.{at-step, at-dormant}
 use Rattle.layout.specs.Buffer.{recordLength, entryLength, jobWidth, byteAt}
-use Rattle.layout.specs.RecordLayout.{flagsByte, flagsOf, recordOffset, decodeRecord, recordForm, soundBytes}
+use Rattle.layout.specs.RecordLayout.{flagsByte, decodeFlags, recordOffset, decodeRecord, recordForm, soundBytes}
 use Rattle.layout.specs.EntryLayout.{pieceLength, decodePiece, zeroByte, entryOffset, pieceOffset, decodeEntry, headForm, entryForm, entryBytes}
 use Rattle.layout.proofs.BitLaws.{flags-back}
 use Rattle.membership.proofs.Logic.{and-left, and-right, and-join}
@@ -157,7 +157,7 @@ module _ (s : List ℕ) (l : recordLength ≤ length s) where
         let fields : decodeRecord s ≡ freshRecord =
         λ i. record {
           step = d i;
-          flags = flagsOf (z1 i);
+          flags = decodeFlags (z1 i);
           request = eqb (z2 i) 1;
           job = job-is i;
           code = code-is i;

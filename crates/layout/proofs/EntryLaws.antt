@@ -15,7 +15,8 @@ use Rattle.block.specs.Entry.{mostPieces, entryFits}
 use Rattle.block.specs.declared.entry.Piece.{Piece}
 use Rattle.block.specs.declared.entry.Entry.{Entry}
 use Rattle.layout.specs.Buffer.{entryLength, byteAt, put, jobWidth}
-use Rattle.layout.specs.EntryLayout.{pieceLength, encodePiece, decodePiece, zeroByte, encodePieces, inputsByte, entryOffset, headLength, pieceOffset, piecesEnd, encodeEntry, decodeEntry, entryForm, entryBytes}
+use Rattle.layout.specs.EntryLayout.{pieceLength, entryOffset, headLength, pieceOffset, piecesEnd, zeroByte, entryForm, entryBytes}
+use Rattle.layout.specs.EntryLayout.{encodePiece, decodePiece, encodePieces, inputsByte, encodeEntry, decodeEntry}
 use Rattle.layout.proofs.Fits.{All, nil, cons, PieceFits, EntryFits}
 use Rattle.layout.proofs.BitLaws.{inputs-bound, inputs-trip, inputs-back}
 use Rattle.layout.proofs.BufferLaws.{fill-whole}

@@ -1,4 +1,4 @@
--- Lengths by name, and entries of a buffer by their index: document 01, "State record, 32 bytes a position" and so on.
+-- Lengths by name, and parts of a buffer by their index: document 01, "State record, 32 bytes a position" and so on.
 use Prim.Native.Nat.{ℕ, _+_, _*_}
 use mathlib.Core.List.{List, _++_}
 use lib.ListN.{length, take, drop, getD}
@@ -26,7 +26,7 @@ jobWidth = 4
 abbrev pub byteAt : List ℕ → ℕ → ℕ
 byteAt s i = getD s i 0
 
--- entry i, from 0, of a buffer whose entries have `size` bytes
+-- part i, from 0, of a buffer whose parts have `size` bytes each
 abbrev pub part : ℕ → ℕ → List ℕ → List ℕ
 part size i s = take size (drop (size * i) s)
 

@@ -18,8 +18,8 @@ bitOf b weight = eqb (b / weight % 2) 1
 abbrev pub flagsByte : Flags → ℕ
 flagsByte f = bit (f .busy) + 2 * bit (f .done) + 4 * bit (f .error) + 8 * bit (f .aborted)
 
-abbrev pub flagsOf : ℕ → Flags
-flagsOf b = record { busy = bitOf b 1; done = bitOf b 2; error = bitOf b 4; aborted = bitOf b 8 }
+abbrev pub decodeFlags : ℕ → Flags
+decodeFlags b = record { busy = bitOf b 1; done = bitOf b 2; error = bitOf b 4; aborted = bitOf b 8 }
 
 -- where each field begins
 pub record RecordOffsets : Type 0 where
@@ -52,7 +52,7 @@ unfoldable pub decodeRecord : List ℕ → Record
 decodeRecord s =
     record {
       step = byteAt s (recordOffset .step);
-      flags = flagsOf (byteAt s (recordOffset .flags));
+      flags = decodeFlags (byteAt s (recordOffset .flags));
       request = eqb (byteAt s (recordOffset .request)) 1;
       job = numberAt jobWidth s (recordOffset .job);
       code = numberAt 2 s (recordOffset .code);

@@ -10,7 +10,8 @@ ghost use Prim.Native.Nat.{_+_, _≤_};
 ghost use lib.ListN.{length, take, drop};
 ghost use Rattle.block.specs.Entry.{pieceForm, pieceFits, headFits};
 ghost use Rattle.layout.specs.Buffer.{entryLength, put};
-ghost use Rattle.layout.specs.EntryLayout.{pieceLength, headLength, piecesEnd, inputsByte, decodeInputs, encodePiece, decodePiece, zeroByte, encodePieces, encodeEntry, decodeEntry, headForm, entryBytes};
+ghost use Rattle.layout.specs.EntryLayout.{pieceLength, headLength, piecesEnd, headForm, zeroByte};
+ghost use Rattle.layout.specs.EntryLayout.{inputsByte, decodeInputs, encodePiece, decodePiece, encodePieces, encodeEntry, decodeEntry, entryBytes};
 
 // Bytes of a frame entry, and of each of its four pieces, which stand after its head.
 pub const ENTRY_BYTES: usize = 56;

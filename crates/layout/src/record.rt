@@ -10,7 +10,7 @@ ghost use lib.ListN.{length};
 ghost use Rattle.words.specs.Word.{numberAt};
 ghost use Rattle.block.specs.Record.{bit};
 ghost use Rattle.layout.specs.Buffer.{recordLength, put};
-ghost use Rattle.layout.specs.RecordLayout.{flagsByte, flagsOf, encodeRecord, decodeRecord, recordForm, soundBytes};
+ghost use Rattle.layout.specs.RecordLayout.{flagsByte, decodeFlags, encodeRecord, decodeRecord, recordForm, soundBytes};
 
 // Bytes of a state record, and where its fields begin.
 pub const RECORD_BYTES: usize = 32;
@@ -46,8 +46,8 @@ pub fn flags_byte(f: Flags) -> u8
     bit(f.busy) + 2 * bit(f.done) + 4 * bit(f.error) + 8 * bit(f.aborted)
 }
 
-pub fn flags_of(b: u8) -> Flags
-    ensures { λ f. ⌜ f ≡ flagsOf b ⌝ }
+pub fn decode_flags(b: u8) -> Flags
+    ensures { λ f. ⌜ f ≡ decodeFlags b ⌝ }
 {
     Flags {
         busy: b / 1 % 2 == 1,
@@ -64,7 +64,7 @@ pub fn decode_record(s: &[u8]) -> Record
 {
     Record {
         step: s[STEP_OFFSET],
-        flags: flags_of(s[FLAGS_OFFSET]),
+        flags: decode_flags(s[FLAGS_OFFSET]),
         request: s[REQUEST_OFFSET] == 1,
         job: words::u32_at(s, JOB_OFFSET),
         code: words::u16_at(s, CODE_OFFSET),

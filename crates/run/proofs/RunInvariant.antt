@@ -15,7 +15,7 @@ use Rattle.layout.specs.Buffer.{recordLength, part}
 use Rattle.layout.specs.RecordLayout.{recordForm, soundBytes}
 use Rattle.layout.specs.EventLayout.{eventsAt}
 use Rattle.membership.proofs.Logic.{and-join}
-use Rattle.block.specs.History.{fresh, entriesOf, recordAfter}
+use Rattle.block.specs.History.{fresh, eventsOf, recordAfter}
 use Rattle.block.specs.BlockInvariant.{noCall}
 use Rattle.block.specs.Sound.{sound}
 use Rattle.block.proofs.BlockInvariant.{block-invariant}
@@ -30,8 +30,8 @@ use Rattle.engine.proofs.ScanAccepted.{scan-accepted}
 use Rattle.run.proofs.ScanLaws.{Held, Kept, scanVerdict, resultBy, scan-is, held-by, kept-by, none-by, entries-by}
 
 -- "A block's entries are the events there with its position.": of any list of scans, from any state
-pub entries-from : (image start : List ℕ) (k : ℕ) (h : Scans) → eventsAt (suc k) (journalFrom image start h) ≡ entriesOf (historyFrom image start k h)
-unfolding journalFrom historyFrom entriesOf eventsAt
+pub entries-from : (image start : List ℕ) (k : ℕ) (h : Scans) → eventsAt (suc k) (journalFrom image start h) ≡ eventsOf (historyFrom image start k h)
+unfolding journalFrom historyFrom eventsOf eventsAt
 entries-from image start k none = refl
 entries-from image start k (h andThen g) =
     let r = resultFrom image start h g in

@@ -20,8 +20,8 @@ use Rattle.layout.proofs.Fits.{RecordFits}
 use Rattle.layout.proofs.BufferLaws.{part-bytes}
 use Rattle.layout.proofs.EntryLaws.{decode-fits, entry-fits}
 use Rattle.layout.proofs.EventLaws.{at-append}
-use Rattle.block.specs.History.{Seen, History, _then_, entriesOf, recordAfter}
-use Rattle.block.specs.BlockInvariant.{Made, andCall, seenCall}
+use Rattle.block.specs.History.{Seen, History, _then_, eventsOf, recordAfter}
+use Rattle.block.specs.BlockInvariant.{MachineHistory, andCall, seenCall}
 use Rattle.engine.specs.Verify.{verifyOf}
 use Rattle.engine.specs.Serve.{recordIn, entryIn}
 use Rattle.engine.specs.Scan.{ScanResult, scanBy, scanBlocks, scanOf}
@@ -42,7 +42,7 @@ pub record Held (image state : List ℕ) : Type 0 where
 -- of the block at index k: the machine made its history in the bytes, which ends in the record of the state buffer
 pub record Kept (image : List ℕ) (k : ℕ) (h : History) (state : List ℕ) : Type 0 where
   pub record-is : recordIn state k ≡ recordAfter h
-  pub made : Made (blockAt (blocksOf image) k .kind) h
+  pub made : MachineHistory (blockAt (blocksOf image) k .kind) h
 
 -- the verdict of checks 20 to 41, and what a scan by a verdict leaves
 abbrev pub scanVerdict : List ℕ → List ℕ → Given → Verdict
@@ -57,9 +57,9 @@ unfolding scanOf scanBlocks
 scan-is image state g n e = rw e
 
 -- of any scan: the events at a block's position in the journal are those of its history
-pub entries-by : (image state : List ℕ) (g : Given) (k : ℕ) (answer : Scanned) (r : ScanResult) (h : History) (ps : List Posted) → eventsAt (suc k) ps ≡ entriesOf h
-    → eventsAt (suc k) (withEvents ps answer r) ≡ entriesOf (withSeen image k h state g answer r)
-unfolding entriesOf
+pub entries-by : (image state : List ℕ) (g : Given) (k : ℕ) (answer : Scanned) (r : ScanResult) (h : History) (ps : List Posted) → eventsAt (suc k) ps ≡ eventsOf h
+    → eventsAt (suc k) (withEvents ps answer r) ≡ eventsOf (withSeen image k h state g answer r)
+unfolding eventsOf
 entries-by image state g k (Events n) r h ps x = rw (at-append, x)
 entries-by image state g k (Refused number place) r h ps x = x
 
@@ -94,7 +94,7 @@ module _ (image state : List ℕ) (g : Given) (framed : Bytes (g .told .frame)) 
       ∙ ap (seenCall kind inputs entry) (x .record-is) in
       record {
         record-is = refl;
-        made = subst (λ (q : Seen). Made kind (h then q)) (sym seen) (andCall (x .made) inputs entry form clock);
+        made = subst (λ (q : Seen). MachineHistory kind (h then q)) (sym seen) (andCall (x .made) inputs entry form clock);
       }
 
   -- no event has a position that is no block's

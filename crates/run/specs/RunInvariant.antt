@@ -14,7 +14,7 @@ use Rattle.layout.specs.EventLayout.{eventsAt}
 use Rattle.block.specs.Record.{Dormant, Executing, bit}
 use Rattle.block.specs.Event.{Start, DoneEvent, Failed, AbortedEvent, Withdrawn}
 use Rattle.block.specs.Turns.{Turns, countOf}
-use Rattle.block.specs.History.{timerOf, takenTimeOut, timeOutInForce, entriesOf}
+use Rattle.block.specs.History.{timerOf, takenTimeOut, timeOutInForce, eventsOf}
 use Rattle.block.specs.BlockInvariant.{EachCall, isOpen, openJob, flagCount}
 use Rattle.block.specs.declared.record.Record.{Record}
 use Rattle.block.specs.declared.event.Event.{Event}
@@ -50,7 +50,7 @@ module _ (image buffer : List ℕ) (scans : Scans) (k : ℕ) where
     -- each accepted scan called the block by the rules, from the record before to the record after, with the passes (at most 6) and pieces of its report; "A start's job is that of the block's frame entry in the scan that wrote it"
     pub calls : EachCall blockKind (historyOf image buffer k scans)
     -- the entries are the events of these calls, in the order of the scans
-    pub entries : blockEntries ≡ entriesOf (historyOf image buffer k scans)
+    pub entries : blockEntries ≡ eventsOf (historyOf image buffer k scans)
     -- in Executing with a time-out in force, elapsed as the readings give it is at most that
     pub inTime : blockRecord .step ≡ Executing → timeOutInForce blockKind (historyOf image buffer k scans) ≢ 0
         → timerOf (historyOf image buffer k scans) .elapsed ≤ timeOutInForce blockKind (historyOf image buffer k scans)

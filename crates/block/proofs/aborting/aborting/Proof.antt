@@ -29,7 +29,13 @@ go-on-requires-2 c κs = search needs
 
 returns-2 : tie.Need-returns-2
 unfolding aborting
-returns-2 c = rw (ne-eqb _ _ (c .before .before .before .before .before .before .if1 .left), eq-eqb _ _ (c .before .before .before .before .if2 .taken), ← c .before .before .before .is-edge .ensures, c .before .before .if3 .taken) (c .go-on2 .ensures ∙ ap (goOn 0) (c .before .at-step .ensures))
+returns-2 c =
+    let after-if3 = c .before .before in
+    let after-is-edge = after-if3 .before in
+    let after-if2 = after-is-edge .before in
+    let after-if1 = after-if2 .before .before in
+    rw (ne-eqb _ _ (after-if1 .if1 .left), eq-eqb _ _ (after-if2 .if2 .taken), ← after-is-edge .is-edge .ensures, after-if3 .if3 .taken)
+    (c .go-on2 .ensures ∙ ap (goOn 0) (c .before .at-step .ensures))
 
 of-requires : tie.Need-of-requires
 of-requires c κs = search needs
@@ -39,7 +45,13 @@ at-step-requires-2 c κs = search needs
 
 returns-3 : tie.Need-returns-3
 unfolding aborting
-returns-3 c = rw (ne-eqb _ _ (c .before .before .before .before .before .before .if1 .left), eq-eqb _ _ (c .before .before .before .before .if2 .taken), ← c .before .before .before .is-edge .ensures, c .before .before .if3 .left) (λ i. record { next = c .at-step2 .ensures i; event = c .before .of .ensures i; used = 0; again = true })
+returns-3 c =
+    let after-if3 = c .before .before in
+    let after-is-edge = after-if3 .before in
+    let after-if2 = after-is-edge .before in
+    let after-if1 = after-if2 .before .before in
+    rw (ne-eqb _ _ (after-if1 .if1 .left), eq-eqb _ _ (after-if2 .if2 .taken), ← after-is-edge .is-edge .ensures, after-if3 .if3 .left)
+    (λ i. record { next = c .at-step2 .ensures i; event = c .before .of .ensures i; used = 0; again = true })
 
 stop-requires : tie.Need-stop-requires
 stop-requires c κs = search needs

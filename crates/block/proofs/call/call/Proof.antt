@@ -33,19 +33,41 @@ add-requires c κs =
 
 loop-less : tie.Need-loop-less Inv-loop μ-loop
 loop-less c =
-    let g = c .before .before .before .before .before .args in
-    rest-less (g .kind) (g .i) (g .e) (c .before .before .before .loop .a) _ (c .before .before .before .loop .inv) (c .before .before .one-pass .result) (c .before .before .one-pass .ensures) (c .before .add .result) (c .before .add .ensures) (c .before .before .before .before .before .pre .0)
+    let after-add = c .before in
+    let after-one-pass = after-add .before in
+    let at-loop = after-one-pass .before in
+    let at-start = at-loop .before .before in
+    let g = at-start .args in
+    let l = at-loop .loop in
+    let p = after-one-pass .one-pass in
+    let b = after-add .add in
+    rest-less (g .kind) (g .i) (g .e) (l .a) _ (l .inv) (p .result) (p .ensures) (b .result) (b .ensures) (at-start .pre .0)
 
 loop-again : tie.Need-loop-again Inv-loop μ-loop
 loop-again c =
-    let g = c .before .before .before .before .before .args in
-    rest-goes (g .kind) (g .i) (g .e) (c .before .before .before .loop .a) _ (c .before .before .before .loop .inv) (c .before .before .one-pass .result) (c .before .before .one-pass .ensures) (c .before .add .result) (c .before .add .ensures) (c .before .before .before .before .before .pre .0) (c .if1 .taken)
+    let after-add = c .before in
+    let after-one-pass = after-add .before in
+    let at-loop = after-one-pass .before in
+    let at-start = at-loop .before .before in
+    let g = at-start .args in
+    let l = at-loop .loop in
+    let p = after-one-pass .one-pass in
+    let b = after-add .add in
+    rest-goes (g .kind) (g .i) (g .e) (l .a) _ (l .inv) (p .result) (p .ensures) (b .result) (b .ensures) (at-start .pre .0) (c .if1 .taken)
 
 returns : tie.Need-returns Inv-loop μ-loop
 returns c =
-    let g = c .before .before .before .before .before .args in
-    rest-ends (g .kind) (g .i) (g .e) (g .r) (c .before .before .before .before .begin .result) _ (c .before .before .before .before .begin .ensures) (call-whole (g .kind) (g .i) (g .e) (g .r) (c .before .before .before .before .before .pre .1))
-    (rest-stops (g .kind) (g .i) (g .e) (c .before .before .before .loop .a) _ (c .before .before .before .loop .inv) (c .before .before .one-pass .result) (c .before .before .one-pass .ensures) (c .before .add .result) (c .before .add .ensures) (c .if1 .left))
+    let after-add = c .before in
+    let after-one-pass = after-add .before in
+    let at-loop = after-one-pass .before in
+    let after-begin = at-loop .before in
+    let at-start = after-begin .before in
+    let g = at-start .args in
+    let l = at-loop .loop in
+    let p = after-one-pass .one-pass in
+    let b = after-add .add in
+    rest-ends (g .kind) (g .i) (g .e) (g .r) (after-begin .begin .result) _ (after-begin .begin .ensures) (call-whole (g .kind) (g .i) (g .e) (g .r) (at-start .pre .1))
+    (rest-stops (g .kind) (g .i) (g .e) (l .a) _ (l .inv) (p .result) (p .ensures) (b .result) (b .ensures) (c .if1 .left))
 
 pub call-spec : {M : Type 1} → statement M
 call-spec =

@@ -15,7 +15,10 @@ of-requires c κs = search needs
 
 returns : tie.Need-returns
 unfolding dormant
-returns c = rw (c .before .before .if1 .taken) (λ i. record { next = c .before .started .ensures i; event = (c .of .ensures ∙ ap (eventOf Start) (c .before .started .ensures)) i; used = 0; again = true })
+returns c =
+    let next = c .before .started .ensures in
+    rw (c .before .before .if1 .taken)
+    (λ i. record { next = next i; event = (c .of .ensures ∙ ap (eventOf Start) next) i; used = 0; again = true })
 
 stop-requires : tie.Need-stop-requires
 stop-requires c κs = search needs

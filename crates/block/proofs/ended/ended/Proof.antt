@@ -28,7 +28,9 @@ finish-event-requires c κs = search needs
 
 returns-2 : tie.Need-returns-2
 unfolding ended
-returns-2 c = rw (← c .before .before .before .reset-due .ensures, c .before .before .if1 .left) (λ i. record { next = c .before .shown .ensures i; event = c .finish-event .ensures i; used = 0; again = false })
+returns-2 c =
+    rw (← c .before .before .before .reset-due .ensures, c .before .before .if1 .left)
+    (λ i. record { next = c .before .shown .ensures i; event = c .finish-event .ensures i; used = 0; again = false })
 
 pub ended-spec : {M : Type 1} → statement M
 ended-spec =

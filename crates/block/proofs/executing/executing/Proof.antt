@@ -16,7 +16,8 @@ use Rattle.block.proofs.executing.executing.Tie as tie
 
 module _ (k : ℕ) (e : Entry) (r : Record) (timeout : ℕ) (et : timeout ≡ timeOutOf k e r) where
   -- the work of the call, from what the callees give
-  work-by : (several : Bool) (limit : ℕ) (from w : Work) → several ≡ hasTimeLimit k → limit ≡ limitOf k e r → from ≡ atCall e r → w ≡ usePieces several (record { limit = limit; timeout = timeout; call = e .clock }) from (take (e .count) (e .pieces)) → w ≡ worked k e r
+  work-by : (several : Bool) (limit : ℕ) (from w : Work) → several ≡ hasTimeLimit k → limit ≡ limitOf k e r → from ≡ atCall e r
+      → w ≡ usePieces several (record { limit = limit; timeout = timeout; call = e .clock }) from (take (e .count) (e .pieces)) → w ≡ worked k e r
   work-by several limit from w es el ef ew =
       ew ∙ λ j. usePieces (es j) (record { limit = el j; timeout = et j; call = e .clock }) (ef j) (take (e .count) (e .pieces))
 
@@ -60,10 +61,21 @@ judge-requires c κs = search needs
 returns-2 : tie.Need-returns-2
 unfolding executing
 returns-2 c =
-    let a = c .before .before .before .before .before .before .before .before .before .before .args in
-    let et = c .before .before .before .before .before .before .before .time-out-of .ensures in
-    let ew = work-by (a .kind) (a .e) (a .r) _ et _ _ _ _ (c .before .before .before .before .has-time-limit .ensures) (c .before .before .before .before .before .before .limit-of .ensures) (c .before .before .before .at-call .ensures) (c .before .before .use-pieces .ensures) in
-    rw (← c .before .before .before .before .before .before .before .before .before .called-off .ensures, c .before .before .before .before .before .before .before .before .if1 .left) (c .judge .ensures ∙ judged-by (a .kind) (a .e) (a .r) _ et _ _ (c .before .is-continuous .ensures) ew)
+    let after-use-pieces = c .before .before in
+    let after-at-call = after-use-pieces .before in
+    let after-has-time-limit = after-at-call .before in
+    let after-limit-of = after-has-time-limit .before .before in
+    let after-time-out-of = after-limit-of .before in
+    let after-if1 = after-time-out-of .before in
+    let after-called-off = after-if1 .before in
+    let at-start = after-called-off .before in
+    let a = at-start .args in
+    let et = after-time-out-of .time-out-of .ensures in
+    let ew =
+    work-by (a .kind) (a .e) (a .r) _ et _ _ _ _ (after-has-time-limit .has-time-limit .ensures) (after-limit-of .limit-of .ensures)
+    (after-at-call .at-call .ensures) (after-use-pieces .use-pieces .ensures) in
+    rw (← after-called-off .called-off .ensures, after-if1 .if1 .left)
+    (c .judge .ensures ∙ judged-by (a .kind) (a .e) (a .r) _ et _ _ (c .before .is-continuous .ensures) ew)
 
 pub executing-spec : {M : Type 1} → statement M
 executing-spec =

@@ -22,9 +22,12 @@ go-on-requires c κs = search needs
 returns : tie.Need-returns
 unfolding judge
 returns c =
-    let w = c .before .before .before .before .before .before .args .w in
-    rw (eq-eqb _ _ (c .before .before .if1 .taken))
-    (c .go-on .ensures ∙ ap (goOn (w .used)) (c .before .failed-with .ensures ∙ ap (failedWith (w .code)) (c .before .before .before .before .before .timed .ensures)))
+    let after-if1 = c .before .before in
+    let after-timed = after-if1 .before .before .before in
+    let at-start = after-timed .before in
+    let w = at-start .args .w in
+    rw (eq-eqb _ _ (after-if1 .if1 .taken))
+    (c .go-on .ensures ∙ ap (goOn (w .used)) (c .before .failed-with .ensures ∙ ap (failedWith (w .code)) (after-timed .timed .ensures)))
 
 past-time-out-requires : tie.Need-past-time-out-requires
 past-time-out-requires c κs = search needs
@@ -38,11 +41,16 @@ go-on-requires-2 c κs = search needs
 returns-2 : tie.Need-returns-2
 unfolding judge
 returns-2 c =
-    let a = c .before .before .before .before .before .before .before .before .before .args in
+    let after-if2 = c .before .before in
+    let after-past-time-out = after-if2 .before in
+    let after-if1 = after-past-time-out .before .before in
+    let after-timed = after-if1 .before .before .before in
+    let at-start = after-timed .before in
+    let a = at-start .args in
     let w = a .w in
-    let late : pastTimeOut (a .timeout) (w .timer) ≡ true = sym (c .before .before .before .past-time-out .ensures) ∙ c .before .before .if2 .taken in
-    rw (ne-eqb _ _ (c .before .before .before .before .before .if1 .left), late)
-    (c .go-on2 .ensures ∙ ap (goOn (w .used)) (c .before .failed-with2 .ensures ∙ ap (failedWith TimedOut) (c .before .before .before .before .before .before .before .before .timed .ensures)))
+    let late : pastTimeOut (a .timeout) (w .timer) ≡ true = sym (after-past-time-out .past-time-out .ensures) ∙ after-if2 .if2 .taken in
+    rw (ne-eqb _ _ (after-if1 .if1 .left), late)
+    (c .go-on2 .ensures ∙ ap (goOn (w .used)) (c .before .failed-with2 .ensures ∙ ap (failedWith TimedOut) (after-timed .timed .ensures)))
 
 at-step-requires : tie.Need-at-step-requires
 at-step-requires c κs = search needs
@@ -53,11 +61,17 @@ go-on-requires-3 c κs = search needs
 returns-3 : tie.Need-returns-3
 unfolding judge
 returns-3 c =
-    let a = c .before .before .before .before .before .before .before .before .before .before .args in
+    let after-if3 = c .before .before in
+    let after-if2 = after-if3 .before in
+    let after-past-time-out = after-if2 .before in
+    let after-if1 = after-past-time-out .before .before in
+    let after-timed = after-if1 .before .before .before in
+    let at-start = after-timed .before in
+    let a = at-start .args in
     let w = a .w in
-    let inTime : pastTimeOut (a .timeout) (w .timer) ≡ false = sym (c .before .before .before .before .past-time-out .ensures) ∙ c .before .before .before .if2 .left in
-    rw (ne-eqb _ _ (c .before .before .before .before .before .before .if1 .left), inTime, c .before .before .if3 .taken)
-    (c .go-on3 .ensures ∙ ap (goOn (w .used)) (c .before .at-step .ensures ∙ ap (atStep Done) (c .before .before .before .before .before .before .before .before .before .timed .ensures)))
+    let inTime : pastTimeOut (a .timeout) (w .timer) ≡ false = sym (after-past-time-out .past-time-out .ensures) ∙ after-if2 .if2 .left in
+    rw (ne-eqb _ _ (after-if1 .if1 .left), inTime, after-if3 .if3 .taken)
+    (c .go-on3 .ensures ∙ ap (goOn (w .used)) (c .before .at-step .ensures ∙ ap (atStep Done) (after-timed .timed .ensures)))
 
 stop-requires : tie.Need-stop-requires
 stop-requires c κs = search needs
@@ -65,10 +79,15 @@ stop-requires c κs = search needs
 returns-4 : tie.Need-returns-4
 unfolding judge
 returns-4 c =
-    let a = c .before .before .before .before .before .before .before .before .before .args in
+    let after-if2 = c .before .before in
+    let after-past-time-out = after-if2 .before in
+    let after-if1 = after-past-time-out .before .before in
+    let after-timed = after-if1 .before .before .before in
+    let at-start = after-timed .before in
+    let a = at-start .args in
     let w = a .w in
-    let inTime : pastTimeOut (a .timeout) (w .timer) ≡ false = sym (c .before .before .before .past-time-out .ensures) ∙ c .before .before .if2 .left in
-    rw (ne-eqb _ _ (c .before .before .before .before .before .if1 .left), inTime, c .before .if3 .left) (c .stop .ensures ∙ ap (stop (w .used)) (c .before .before .before .before .before .before .before .before .timed .ensures))
+    let inTime : pastTimeOut (a .timeout) (w .timer) ≡ false = sym (after-past-time-out .past-time-out .ensures) ∙ after-if2 .if2 .left in
+    rw (ne-eqb _ _ (after-if1 .if1 .left), inTime, c .before .if3 .left) (c .stop .ensures ∙ ap (stop (w .used)) (after-timed .timed .ensures))
 
 pub judge-spec : {M : Type 1} → statement M
 judge-spec =

@@ -1,6 +1,6 @@
 -- `use_pieces` meets its contract: what is left of the pieces, used from the present work, gives what all of them give from the first.
 use borrow.Author.Needs.{needs}
-use Prim.Native.Nat.{_≤_, _-_}
+use Prim.Native.Nat.{_≤_, _<_, _-_}
 use mathlib.Core.Path.{_≡_, _∙_, ap, refl, sym}
 use native.Mathlib.Omega.{arith}
 use lib.ListN.{take, drop, length}
@@ -33,10 +33,16 @@ ends-pieces-requires c κs = search needs
 
 returns : tie.Need-returns Inv-loop μ-loop
 returns c =
-    let a = c .before .before .before .before .before .before .args in
-    let l = c .before .before .before .before .before .loop in
-    let four : a .count ≤ length (a .t4) = omega arith in
-    sym (used-last (a .several) (a .b) (a .count) (a .t4) (l .i) (l .w) four (c .before .before .before .before .loop-test .taken) _ (c .before .before .use-piece .ensures) _ (c .before .ends-pieces .ensures) (c .if1 .taken)) ∙ l .inv .2
+    let after-use-piece = c .before .before in
+    let after-loop-test = after-use-piece .before .before in
+    let at-loop = after-loop-test .before in
+    let at-start = at-loop .before in
+    let a = at-start .args in
+    let l = at-loop .loop in
+    let four : a .count ≤ length (a .t4) = omega (arith, at-start .good, at-start .pre) in
+    sym (used-last (a .several) (a .b) (a .count) (a .t4) (l .i) (l .w) four (after-loop-test .loop-test .taken)
+    _ (after-use-piece .use-piece .ensures) _ (c .before .ends-pieces .ensures) (c .if1 .taken))
+    ∙ l .inv .2
 
 add-i : tie.Need-add-i Inv-loop μ-loop
 add-i c = omega arith
@@ -46,12 +52,19 @@ loop-less c = omega arith
 
 loop-again : tie.Need-loop-again Inv-loop μ-loop
 loop-again c =
-    let a = c .before .before .before .before .before .before .args in
-    let l = c .before .before .before .before .before .loop in
-    let four : a .count ≤ length (a .t4) = omega arith in (
-      omega arith,
-      omega (arith, ap (λ (w : Work). w .used) (c .before .before .use-piece .ensures)),
-      sym (used-one (a .several) (a .b) (a .count) (a .t4) (l .i) (l .w) four (c .before .before .before .before .loop-test .taken) _ (c .before .before .use-piece .ensures) _ (c .before .ends-pieces .ensures) (c .if1 .left)) ∙ l .inv .2,
+    let after-use-piece = c .before .before in
+    let after-loop-test = after-use-piece .before .before in
+    let at-loop = after-loop-test .before in
+    let at-start = at-loop .before in
+    let a = at-start .args in
+    let l = at-loop .loop in
+    let four : a .count ≤ length (a .t4) = omega (arith, at-start .good, at-start .pre) in
+    let more : l .i < a .count = after-loop-test .loop-test .taken in (
+      omega (arith, more),
+      omega (arith, ap (λ (w : Work). w .used) (after-use-piece .use-piece .ensures), l .inv .1),
+      sym (used-one (a .several) (a .b) (a .count) (a .t4) (l .i) (l .w) four more
+          _ (after-use-piece .use-piece .ensures) _ (c .before .ends-pieces .ensures) (c .if1 .left))
+          ∙ l .inv .2,
     )
 
 returns-2 : tie.Need-returns-2 Inv-loop μ-loop

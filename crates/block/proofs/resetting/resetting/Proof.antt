@@ -13,7 +13,10 @@ none-requires c κs = search needs
 
 returns : tie.Need-returns
 unfolding resetting
-returns c = rw (eq-eqb _ _ (c .before .before .if1 .taken)) (λ i. record { next = c .before .fresh .ensures i; event = c .none .ensures i; used = 0; again = c .before .before .before .before .args .r .request })
+returns c =
+    let after-if1 = c .before .before in
+    let at-start = after-if1 .before .before in
+    rw (eq-eqb _ _ (after-if1 .if1 .taken)) (λ i. record { next = c .before .fresh .ensures i; event = c .none .ensures i; used = 0; again = at-start .args .r .request })
 
 stop-requires : tie.Need-stop-requires
 stop-requires c κs = search needs

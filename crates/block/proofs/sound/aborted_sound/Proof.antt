@@ -16,8 +16,10 @@ times-sound-requires c κs = search needs
 
 returns : tie.Need-returns
 returns c =
-    let a = c .before .before .before .before .args in
-    rw (c .before .before .before .only .ensures, c .before .has-abort .ensures, c .times-sound .ensures) (sym (at-aborted (a .kind) (a .r)))
+    let after-only = c .before .before .before in
+    let at-start = after-only .before in
+    let a = at-start .args in
+    rw (after-only .only .ensures, c .before .has-abort .ensures, c .times-sound .ensures) (sym (at-aborted (a .kind) (a .r)))
 
 pub aborted-sound-spec : {M : Type 1} → statement M
 aborted-sound-spec =

@@ -19,8 +19,11 @@ times-sound-requires c κs = search needs
 
 returns : tie.Need-returns
 returns c =
-    let a = c .before .before .before .before .before .before .args in
-    rw (c .before .before .before .before .before .only .ensures, c .before .before .before .is-edge .ensures, c .before .is-continuous .ensures, c .times-sound .ensures)
+    let after-is-edge = c .before .before .before in
+    let after-only = after-is-edge .before .before in
+    let at-start = after-only .before in
+    let a = at-start .args in
+    rw (after-only .only .ensures, after-is-edge .is-edge .ensures, c .before .is-continuous .ensures, c .times-sound .ensures)
     (sym (at-done (a .kind) (a .r)))
 
 pub done-sound-spec : {M : Type 1} → statement M

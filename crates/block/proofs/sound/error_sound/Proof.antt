@@ -16,8 +16,10 @@ times-sound-requires c κs = search needs
 
 returns : tie.Need-returns
 returns c =
-    let a = c .before .before .before .before .before .args in
-    rw (c .before .before .before .before .only .ensures, c .before .has-time-out .ensures, c .times-sound .ensures) (sym (at-error (a .kind) (a .r)))
+    let after-only = c .before .before .before .before in
+    let at-start = after-only .before in
+    let a = at-start .args in
+    rw (after-only .only .ensures, c .before .has-time-out .ensures, c .times-sound .ensures) (sym (at-error (a .kind) (a .r)))
 
 pub error-sound-spec : {M : Type 1} → statement M
 error-sound-spec =

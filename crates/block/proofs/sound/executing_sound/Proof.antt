@@ -13,8 +13,10 @@ times-sound-requires c κs = search needs
 
 returns : tie.Need-returns
 returns c =
-    let a = c .before .before .before .before .args in
-    rw (c .before .before .before .only .ensures, c .times-sound .ensures) (sym (at-executing (a .kind) (a .r)))
+    let after-only = c .before .before .before in
+    let at-start = after-only .before in
+    let a = at-start .args in
+    rw (after-only .only .ensures, c .times-sound .ensures) (sym (at-executing (a .kind) (a .r)))
 
 pub executing-sound-spec : {M : Type 1} → statement M
 executing-sound-spec = tie.close (tie.spec only-requires times-sound-requires returns)

@@ -29,18 +29,24 @@ error-sound-requires c κs = search needs
 
 returns-3 : tie.Need-returns-3
 returns-3 c =
-    let a = c .before .before .before .before .args in
+    let after-if2 = c .before .before in
+    let after-if1 = after-if2 .before in
+    let at-start = after-if1 .before in
+    let a = at-start .args in
     c .error-sound .ensures
-    ∙ sym (resetting-error (a .kind) (a .r) (c .before .before .before .if1 .left) (c .before .before .if2 .left) (c .before .if3 .taken))
+    ∙ sym (resetting-error (a .kind) (a .r) (after-if1 .if1 .left) (after-if2 .if2 .left) (c .before .if3 .taken))
 
 aborted-sound-requires : tie.Need-aborted-sound-requires
 aborted-sound-requires c κs = search needs
 
 returns-4 : tie.Need-returns-4
 returns-4 c =
-    let a = c .before .before .before .before .args in
+    let after-if2 = c .before .before in
+    let after-if1 = after-if2 .before in
+    let at-start = after-if1 .before in
+    let a = at-start .args in
     c .aborted-sound .ensures
-    ∙ sym (resetting-aborted (a .kind) (a .r) (c .before .before .before .if1 .left) (c .before .before .if2 .left) (c .before .if3 .left))
+    ∙ sym (resetting-aborted (a .kind) (a .r) (after-if1 .if1 .left) (after-if2 .if2 .left) (c .before .if3 .left))
 
 pub resetting-sound-spec : {M : Type 1} → statement M
 resetting-sound-spec =

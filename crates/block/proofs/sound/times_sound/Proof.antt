@@ -6,7 +6,9 @@ use Rattle.block.proofs.sound.times_sound.Statement.{statement}
 use Rattle.block.proofs.sound.times_sound.Tie as tie
 
 returns : tie.Need-returns
-returns c = let a = c .before .before .before .before .args in times-none (a .kind) (a .r) (c .if1 .taken)
+returns c =
+    let at-start = c .before .before .before .before in
+    let a = at-start .args in times-none (a .kind) (a .r) (c .if1 .taken)
 
 is-edge-requires : tie.Need-is-edge-requires
 is-edge-requires c κs = search needs
@@ -19,7 +21,10 @@ has-time-out-requires c κs = search needs
 
 returns-2 : tie.Need-returns-2
 unfolding timesSound
-returns-2 c = rw (c .before .before .before .before .is-edge .ensures, c .before .before .has-time-limit .ensures, c .has-time-out .ensures)
+returns-2 c =
+    let after-has-time-limit = c .before .before in
+    let after-is-edge = after-has-time-limit .before .before in
+    rw (after-is-edge .is-edge .ensures, after-has-time-limit .has-time-limit .ensures, c .has-time-out .ensures)
 
 pub times-sound-spec : {M : Type 1} → statement M
 times-sound-spec =

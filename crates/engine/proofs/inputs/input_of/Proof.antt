@@ -18,17 +18,17 @@ cast-i c = search needs
 sub-i : tie.Need-sub-i
 sub-i c = search needs
 
-mul-flags-of : tie.Need-mul-flags-of
-mul-flags-of c = search needs
+mul-decode-flags : tie.Need-mul-decode-flags
+mul-decode-flags c = search needs
 
-add-flags-of : tie.Need-add-flags-of
-add-flags-of c = search needs
+add-decode-flags : tie.Need-add-decode-flags
+add-decode-flags c = search needs
 
-shared-slice-read-flags-of : tie.Need-shared-slice-read-flags-of
-shared-slice-read-flags-of c = search needs
+shared-slice-read-decode-flags : tie.Need-shared-slice-read-decode-flags
+shared-slice-read-decode-flags c = search needs
 
-flags-of-requires : tie.Need-flags-of-requires
-flags-of-requires c κs = search needs
+decode-flags-requires : tie.Need-decode-flags-requires
+decode-flags-requires c κs = search needs
 
 flag-of-requires : tie.Need-flag-of-requires
 flag-of-requires c κs = search needs
@@ -37,7 +37,7 @@ returns-2 : tie.Need-returns-2
 returns-2 c =
     let a = c .before .before .before .before .before .before .args in
     let i = a .w .position - 1 in
-    let flags : c .before .before .flags-of .result ≡ flagsIn (a .state .now) i = c .before .before .flags-of .ensures ∙ flags-at (a .state .now) i in
+    let flags : c .before .before .decode-flags .result ≡ flagsIn (a .state .now) i = c .before .before .decode-flags .ensures ∙ flags-at (a .state .now) i in
     let flag : c .before .flag-of .result ≡ flagOf (a .w .flag) (flagsIn (a .state .now) i) = c .before .flag-of .ensures ∙ ap (flagOf (a .w .flag)) flags in
     rw (ne-eqb _ _ (c .before .before .before .before .if1 .left), c .if2 .taken) (ap not flag)
 
@@ -45,7 +45,7 @@ returns-3 : tie.Need-returns-3
 returns-3 c =
     let a = c .before .before .before .before .before .before .args in
     let i = a .w .position - 1 in
-    let flags : c .before .before .flags-of .result ≡ flagsIn (a .state .now) i = c .before .before .flags-of .ensures ∙ flags-at (a .state .now) i in
+    let flags : c .before .before .decode-flags .result ≡ flagsIn (a .state .now) i = c .before .before .decode-flags .ensures ∙ flags-at (a .state .now) i in
     let flag : c .before .flag-of .result ≡ flagOf (a .w .flag) (flagsIn (a .state .now) i) = c .before .flag-of .ensures ∙ ap (flagOf (a .w .flag)) flags in
     rw (ne-eqb _ _ (c .before .before .before .before .if1 .left), c .if2 .left) flag
 
@@ -56,10 +56,10 @@ input-of-spec =
     returns
     cast-i
     sub-i
-    mul-flags-of
-    add-flags-of
-    shared-slice-read-flags-of
-    flags-of-requires
+    mul-decode-flags
+    add-decode-flags
+    shared-slice-read-decode-flags
+    decode-flags-requires
     flag-of-requires
     returns-2
     returns-3)

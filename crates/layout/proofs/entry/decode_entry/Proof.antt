@@ -52,24 +52,28 @@ u32-at-requires-4 c κs = search needs
 returns : tie.Need-returns
 unfolding decodeEntry
 returns c =
-    let four = c .before .before .before .before .before .before .before .before .before .before in
-    let s = c .before .before .before .before .before .before .before .before .before .before .before .before .before .before .before .args .s .now in
+    let after-u32-at2 = c .before .before in
+    let after-u32-at = after-u32-at2 .before in
+    let after-u16-at = after-u32-at .before in
+    let after-decode-inputs = after-u16-at .before .before .before .before in
+    let fourth = after-decode-inputs .before .before in
+    let third = fourth .before in
+    let second = third .before in
+    let first = second .before in
+    let at-start = first .before .before in
+    let s = at-start .args .s .now in
     λ i. record {
-      inputs = c .before .before .before .before .before .before .before .before .decode-inputs .ensures i;
+      inputs = after-decode-inputs .decode-inputs .ensures i;
       count = byteAt s (entryOffset .count);
       «abort_reply» = byteAt s (entryOffset .abortReply);
       «reset_reply» = byteAt s (entryOffset .resetReply);
-      «abort_code» = c .before .before .before .before .u16-at .ensures i;
-      job = c .before .before .before .u32-at .ensures i;
-      limit = c .before .before .u32-at2 .ensures i;
+      «abort_code» = after-u16-at .u16-at .ensures i;
+      job = after-u32-at .u32-at .ensures i;
+      limit = after-u32-at2 .u32-at2 .ensures i;
       timeout = c .before .u32-at3 .ensures i;
       clock = c .u32-at4 .ensures i;
       pieces =
-          four .before .before .before .decode-piece .ensures i
-          ∷ four .before .before .decode-piece2 .ensures i
-          ∷ four .before .decode-piece3 .ensures i
-          ∷ four .decode-piece4 .ensures i
-          ∷ [];
+          first .decode-piece .ensures i ∷ second .decode-piece2 .ensures i ∷ third .decode-piece3 .ensures i ∷ fourth .decode-piece4 .ensures i ∷ [];
     }
 
 pub decode-entry-spec : {M : Type 1} → statement M

@@ -83,12 +83,17 @@ array-read-t63 c = omega arith
 returns : tie.Need-returns
 unfolding bytes encodeEntry
 returns c =
-    let e = c .before .before .before .before .before .before .args .e in
+    let after-u32-bytes3 = c .before .before in
+    let after-u32-bytes2 = after-u32-bytes3 .before in
+    let after-u32-bytes = after-u32-bytes2 .before in
+    let after-u16-bytes = after-u32-bytes .before in
+    let at-start = after-u16-bytes .before in
+    let e = at-start .args .e in
     λ i.
-    let code = c .before .before .before .before .before .u16-bytes .ensures i in
-    let job = c .before .before .before .before .u32-bytes .ensures i in
-    let limit = c .before .before .before .u32-bytes2 .ensures i in
-    let timeout = c .before .before .u32-bytes3 .ensures i in
+    let code = after-u16-bytes .u16-bytes .ensures i in
+    let job = after-u32-bytes .u32-bytes .ensures i in
+    let limit = after-u32-bytes2 .u32-bytes2 .ensures i in
+    let timeout = after-u32-bytes3 .u32-bytes3 .ensures i in
     let clock = c .before .u32-bytes4 .ensures i in
     c .inputs-byte .ensures i ∷ e .count ∷ e .«abort_reply» ∷ e .«reset_reply»
     ∷ getD code 0 0 ∷ getD code 1 0 ∷ 0 ∷ 0

@@ -24,8 +24,11 @@ piece-fits-requires c κs = search needs
 
 returns-2 : tie.Need-returns-2
 returns-2 c =
-    let s = c .before .before .before .before .before .before .args .s .now in
-    let head : headTest s ≡ true = sym (c .before .before .before .before .head-fits .ensures) ∙ not-false _ (c .before .before .before .if1 .left) in
+    let after-if1 = c .before .before .before in
+    let after-head-fits = after-if1 .before in
+    let at-start = after-head-fits .before .before in
+    let s = at-start .args .s .now in
+    let head : headTest s ≡ true = sym (after-head-fits .head-fits .ensures) ∙ not-false _ (after-if1 .if1 .left) in
     let first : pieceTest s 0 ≡ false = sym (c .before .piece-fits .ensures) ∙ not-true _ (c .if2 .taken) in
     rw first at (entry-pieces s head)
 
@@ -34,9 +37,14 @@ piece-fits-requires-2 c κs = search needs
 
 returns-3 : tie.Need-returns-3
 returns-3 c =
-    let s = c .before .before .before .before .before .before .before .before .args .s .now in
-    let head : headTest s ≡ true = sym (c .before .before .before .before .before .before .head-fits .ensures) ∙ not-false _ (c .before .before .before .before .before .if1 .left) in
-    let first : pieceTest s 0 ≡ true = sym (c .before .before .before .piece-fits .ensures) ∙ not-false _ (c .before .before .if2 .left) in
+    let after-if2 = c .before .before in
+    let after-piece-fits = after-if2 .before in
+    let after-if1 = after-piece-fits .before .before in
+    let after-head-fits = after-if1 .before in
+    let at-start = after-head-fits .before .before in
+    let s = at-start .args .s .now in
+    let head : headTest s ≡ true = sym (after-head-fits .head-fits .ensures) ∙ not-false _ (after-if1 .if1 .left) in
+    let first : pieceTest s 0 ≡ true = sym (after-piece-fits .piece-fits .ensures) ∙ not-false _ (after-if2 .if2 .left) in
     let second : pieceTest s 1 ≡ false = sym (c .before .piece-fits2 .ensures) ∙ not-true _ (c .if3 .taken) in
     rw (first, second) at (entry-pieces s head)
 
@@ -45,10 +53,17 @@ piece-fits-requires-3 c κs = search needs
 
 returns-4 : tie.Need-returns-4
 returns-4 c =
-    let s = c .before .before .before .before .before .before .before .before .before .before .args .s .now in
-    let head : headTest s ≡ true = sym (c .before .before .before .before .before .before .before .before .head-fits .ensures) ∙ not-false _ (c .before .before .before .before .before .before .before .if1 .left) in
-    let first : pieceTest s 0 ≡ true = sym (c .before .before .before .before .before .piece-fits .ensures) ∙ not-false _ (c .before .before .before .before .if2 .left) in
-    let second : pieceTest s 1 ≡ true = sym (c .before .before .before .piece-fits2 .ensures) ∙ not-false _ (c .before .before .if3 .left) in
+    let after-if3 = c .before .before in
+    let after-piece-fits2 = after-if3 .before in
+    let after-if2 = after-piece-fits2 .before in
+    let after-piece-fits = after-if2 .before in
+    let after-if1 = after-piece-fits .before .before in
+    let after-head-fits = after-if1 .before in
+    let at-start = after-head-fits .before .before in
+    let s = at-start .args .s .now in
+    let head : headTest s ≡ true = sym (after-head-fits .head-fits .ensures) ∙ not-false _ (after-if1 .if1 .left) in
+    let first : pieceTest s 0 ≡ true = sym (after-piece-fits .piece-fits .ensures) ∙ not-false _ (after-if2 .if2 .left) in
+    let second : pieceTest s 1 ≡ true = sym (after-piece-fits2 .piece-fits2 .ensures) ∙ not-false _ (after-if3 .if3 .left) in
     let third : pieceTest s 2 ≡ false = sym (c .before .piece-fits3 .ensures) ∙ not-true _ (c .if4 .taken) in
     rw (first, second, third) at (entry-pieces s head)
 
@@ -57,11 +72,19 @@ piece-fits-requires-4 c κs = search needs
 
 returns-5 : tie.Need-returns-5
 returns-5 c =
-    let s = c .before .before .before .before .before .before .before .before .before .before .before .args .s .now in
-    let head : headTest s ≡ true = sym (c .before .before .before .before .before .before .before .before .before .head-fits .ensures) ∙ not-false _ (c .before .before .before .before .before .before .before .before .if1 .left) in
-    let first : pieceTest s 0 ≡ true = sym (c .before .before .before .before .before .before .piece-fits .ensures) ∙ not-false _ (c .before .before .before .before .before .if2 .left) in
-    let second : pieceTest s 1 ≡ true = sym (c .before .before .before .before .piece-fits2 .ensures) ∙ not-false _ (c .before .before .before .if3 .left) in
-    let third : pieceTest s 2 ≡ true = sym (c .before .before .piece-fits3 .ensures) ∙ not-false _ (c .before .if4 .left) in
+    let after-piece-fits3 = c .before .before in
+    let after-if3 = after-piece-fits3 .before in
+    let after-piece-fits2 = after-if3 .before in
+    let after-if2 = after-piece-fits2 .before in
+    let after-piece-fits = after-if2 .before in
+    let after-if1 = after-piece-fits .before .before in
+    let after-head-fits = after-if1 .before in
+    let at-start = after-head-fits .before .before in
+    let s = at-start .args .s .now in
+    let head : headTest s ≡ true = sym (after-head-fits .head-fits .ensures) ∙ not-false _ (after-if1 .if1 .left) in
+    let first : pieceTest s 0 ≡ true = sym (after-piece-fits .piece-fits .ensures) ∙ not-false _ (after-if2 .if2 .left) in
+    let second : pieceTest s 1 ≡ true = sym (after-piece-fits2 .piece-fits2 .ensures) ∙ not-false _ (after-if3 .if3 .left) in
+    let third : pieceTest s 2 ≡ true = sym (after-piece-fits3 .piece-fits3 .ensures) ∙ not-false _ (c .before .if4 .left) in
     c .piece-fits4 .ensures ∙ rw (first, second, third) at (entry-pieces s head)
 
 pub entry-bytes-spec : {M : Type 1} → statement M

@@ -22,8 +22,10 @@ code-fits-requires c κs = search needs
 
 returns : tie.Need-returns
 returns c =
-    let a = c .before .before .before .before .before .args in
-    rw (c .before .before .before .u16-at .ensures, c .code-fits .ensures, c .before .u16-at2 .ensures) (piece-within (a .s .now) (a .at) (omega arith))
+    let after-u16-at = c .before .before .before in
+    let at-start = after-u16-at .before .before in
+    let a = at-start .args in
+    rw (after-u16-at .u16-at .ensures, c .code-fits .ensures, c .before .u16-at2 .ensures) (piece-within (a .s .now) (a .at) (omega arith))
 
 pub piece-form-spec : {M : Type 1} → statement M
 piece-form-spec =

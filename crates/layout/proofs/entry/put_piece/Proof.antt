@@ -32,10 +32,13 @@ same-length c = search needs
 returns : tie.Need-returns
 unfolding bytes
 returns c =
-    let a = c .before .before .before .before .before .before .before .args in
-    let e = c .before .before .before .before .before .encode-piece .ensures in
-    let h = c .before .before .copy .ensures .1 in
-    put-front (a .at) pieceLength (a .s .now) (encodePiece (a .p)) (c .before .before .copy .last .1 .0) refl (rw e at h)
+    let after-copy = c .before .before in
+    let after-encode-piece = after-copy .before .before .before in
+    let at-start = after-encode-piece .before .before in
+    let a = at-start .args in
+    let e = after-encode-piece .encode-piece .ensures in
+    let h = after-copy .copy .ensures .1 in
+    put-front (a .at) pieceLength (a .s .now) (encodePiece (a .p)) (after-copy .copy .last .1 .0) refl (rw e at h)
 
 pub put-piece-spec : {M : Type 1} → statement M
 put-piece-spec =

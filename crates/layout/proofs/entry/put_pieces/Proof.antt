@@ -41,13 +41,18 @@ same-length c = search needs
 
 returns : tie.Need-returns
 returns c =
-    let a = c .before .before .before .before .before .before .before .before .before .before .before .before .before .before .before .before .before .before .before .before .before .args in
-    let four : length (a .t2) ≡ 4 = omega (arith, c .before .before .before .before .before .before .before .before .before .before .before .before .before .before .before .before .before .before .before .before .before .good) in
-    pieces-put noPiece (a .t2) (a .s .now) _ _ _ _ four (c .before .before .before .before .before .before .before .before .before .before .before .before .before .before .before .before .before .before .before .before .before .pre)
-    (c .before .before .before .before .before .before .before .before .before .before .before .before .before .before .before .before .before .put-piece .ensures)
-    (c .before .before .before .before .before .before .before .before .before .before .before .before .put-piece2 .ensures)
-    (c .before .before .before .before .before .before .before .put-piece3 .ensures)
-    (c .before .before .put-piece4 .ensures)
+    let after-put-piece4 = c .before .before in
+    let after-put-piece3 = after-put-piece4 .before .before .before .before .before in
+    let after-put-piece2 = after-put-piece3 .before .before .before .before .before in
+    let after-put-piece = after-put-piece2 .before .before .before .before .before in
+    let at-start = after-put-piece .before .before .before .before in
+    let a = at-start .args in
+    let four : length (a .t2) ≡ 4 = omega (arith, at-start .good) in
+    pieces-put noPiece (a .t2) (a .s .now) _ _ _ _ four (at-start .pre)
+    (after-put-piece .put-piece .ensures)
+    (after-put-piece2 .put-piece2 .ensures)
+    (after-put-piece3 .put-piece3 .ensures)
+    (after-put-piece4 .put-piece4 .ensures)
 
 pub put-pieces-spec : {M : Type 1} → statement M
 put-pieces-spec =

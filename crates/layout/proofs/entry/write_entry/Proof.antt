@@ -25,10 +25,14 @@ same-length c = search needs
 returns : tie.Need-returns
 unfolding bytes encodeEntry
 returns c =
-    let a = c .before .before .before .before .before .before .before .before .before .before .before .before .args in
-    let e = c .before .before .before .before .before .before .before .before .before .before .encode-head .ensures in
-    let copied = c .before .before .before .before .before .before .before .copy .ensures .1 in
-    entry-put (a .e) (a .out .now) _ _ (rw e at copied) (c .before .before .put-pieces .ensures)
+    let after-put-pieces = c .before .before in
+    let after-copy = after-put-pieces .before .before .before .before .before in
+    let after-encode-head = after-copy .before .before .before in
+    let at-start = after-encode-head .before .before in
+    let a = at-start .args in
+    let e = after-encode-head .encode-head .ensures in
+    let copied = after-copy .copy .ensures .1 in
+    entry-put (a .e) (a .out .now) _ _ (rw e at copied) (after-put-pieces .put-pieces .ensures)
 
 pub write-entry-spec : {M : Type 1} → statement M
 write-entry-spec =

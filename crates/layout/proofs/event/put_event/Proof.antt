@@ -33,10 +33,13 @@ same-length c = search needs
 returns : tie.Need-returns
 unfolding bytes encodeEvent
 returns c =
-    let a = c .before .before .before .before .before .before .before .args in
-    let e = c .before .before .before .before .before .encode-event .ensures in
-    let h = c .before .before .copy .ensures .1 in
-    put-front (a .at) eventLength (a .journal .now) (encodeEvent (a .position) (a .v)) (c .before .before .copy .last .1 .0) refl (rw e at h)
+    let after-copy = c .before .before in
+    let after-encode-event = after-copy .before .before .before in
+    let at-start = after-encode-event .before .before in
+    let a = at-start .args in
+    let e = after-encode-event .encode-event .ensures in
+    let h = after-copy .copy .ensures .1 in
+    put-front (a .at) eventLength (a .journal .now) (encodeEvent (a .position) (a .v)) (after-copy .copy .last .1 .0) refl (rw e at h)
 
 pub put-event-spec : {M : Type 1} → statement M
 put-event-spec =

@@ -10,11 +10,11 @@ use Rattle.layout.proofs.record.decode_record.Tie as tie
 shared-slice-read-t3 : tie.Need-shared-slice-read-t3
 shared-slice-read-t3 c = omega arith
 
-shared-slice-read-flags-of : tie.Need-shared-slice-read-flags-of
-shared-slice-read-flags-of c = omega arith
+shared-slice-read-decode-flags : tie.Need-shared-slice-read-decode-flags
+shared-slice-read-decode-flags c = omega arith
 
-flags-of-requires : tie.Need-flags-of-requires
-flags-of-requires c κs = search needs
+decode-flags-requires : tie.Need-decode-flags-requires
+decode-flags-requires c κs = search needs
 
 shared-slice-read-t8 : tie.Need-shared-slice-read-t8
 shared-slice-read-t8 c = omega arith
@@ -40,15 +40,21 @@ u64-at-requires c κs = search needs
 returns : tie.Need-returns
 unfolding decodeRecord
 returns c =
-    let s = c .before .before .before .before .before .before .before .before .before .before .before .args .s .now in
+    let after-u32-at3 = c .before .before in
+    let after-u32-at2 = after-u32-at3 .before in
+    let after-u16-at = after-u32-at2 .before in
+    let after-u32-at = after-u16-at .before in
+    let after-decode-flags = after-u32-at .before .before in
+    let at-start = after-decode-flags .before .before .before .before in
+    let s = at-start .args .s .now in
     λ i. record {
       step = byteAt s (recordOffset .step);
-      flags = c .before .before .before .before .before .before .before .flags-of .ensures i;
+      flags = after-decode-flags .decode-flags .ensures i;
       request = eqb (byteAt s (recordOffset .request)) 1;
-      job = c .before .before .before .before .before .u32-at .ensures i;
-      code = c .before .before .before .before .u16-at .ensures i;
-      limit = c .before .before .before .u32-at2 .ensures i;
-      timeout = c .before .before .u32-at3 .ensures i;
+      job = after-u32-at .u32-at .ensures i;
+      code = after-u16-at .u16-at .ensures i;
+      limit = after-u32-at2 .u32-at2 .ensures i;
+      timeout = after-u32-at3 .u32-at3 .ensures i;
       timer = record { last = c .before .u32-at4 .ensures i; elapsed = c .u64-at .ensures i };
     }
 
@@ -57,8 +63,8 @@ decode-record-spec =
     tie.close
     (tie.spec
     shared-slice-read-t3
-    shared-slice-read-flags-of
-    flags-of-requires
+    shared-slice-read-decode-flags
+    decode-flags-requires
     shared-slice-read-t8
     u32-at-requires
     u16-at-requires

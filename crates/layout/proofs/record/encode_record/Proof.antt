@@ -113,14 +113,21 @@ array-read-t90 c = omega arith
 returns : tie.Need-returns
 unfolding bytes encodeRecord
 returns c =
+    let after-u64-bytes = c .before .before in
+    let after-u32-bytes4 = after-u64-bytes .before in
+    let after-u32-bytes3 = after-u32-bytes4 .before in
+    let after-u32-bytes2 = after-u32-bytes3 .before in
+    let after-u16-bytes = after-u32-bytes2 .before in
+    let after-u32-bytes = after-u16-bytes .before in
+    let at-start = after-u32-bytes .before in
     λ i.
-    let job = c .before .before .before .before .before .before .before .u32-bytes .ensures i in
-    let code = c .before .before .before .before .before .before .u16-bytes .ensures i in
-    let limit = c .before .before .before .before .before .u32-bytes2 .ensures i in
-    let timeout = c .before .before .before .before .u32-bytes3 .ensures i in
-    let last = c .before .before .before .u32-bytes4 .ensures i in
-    let elapsed = c .before .before .u64-bytes .ensures i in
-    c .before .before .before .before .before .before .before .before .args .r .step ∷ c .before .flags-byte .ensures .0 i ∷ c .bit .ensures i ∷ 0
+    let job = after-u32-bytes .u32-bytes .ensures i in
+    let code = after-u16-bytes .u16-bytes .ensures i in
+    let limit = after-u32-bytes2 .u32-bytes2 .ensures i in
+    let timeout = after-u32-bytes3 .u32-bytes3 .ensures i in
+    let last = after-u32-bytes4 .u32-bytes4 .ensures i in
+    let elapsed = after-u64-bytes .u64-bytes .ensures i in
+    at-start .args .r .step ∷ c .before .flags-byte .ensures .0 i ∷ c .bit .ensures i ∷ 0
     ∷ getD job 0 0 ∷ getD job 1 0 ∷ getD job 2 0 ∷ getD job 3 0
     ∷ getD code 0 0 ∷ getD code 1 0 ∷ 0 ∷ 0
     ∷ getD limit 0 0 ∷ getD limit 1 0 ∷ getD limit 2 0 ∷ getD limit 3 0

@@ -33,10 +33,13 @@ same-length c = search needs
 returns : tie.Need-returns
 unfolding bytes encodeRecord
 returns c =
-    let a = c .before .before .before .before .before .before .before .args in
-    let e = c .before .before .before .before .before .encode-record .ensures in
-    let h = c .before .before .copy .ensures .1 in
-    put-front (a .at) recordLength (a .s .now) (encodeRecord (a .r)) (c .before .before .copy .last .1 .0) refl (rw e at h)
+    let after-copy = c .before .before in
+    let after-encode-record = after-copy .before .before .before in
+    let at-start = after-encode-record .before .before in
+    let a = at-start .args in
+    let e = after-encode-record .encode-record .ensures in
+    let h = after-copy .copy .ensures .1 in
+    put-front (a .at) recordLength (a .s .now) (encodeRecord (a .r)) (after-copy .copy .last .1 .0) refl (rw e at h)
 
 pub put-record-spec : {M : Type 1} → statement M
 put-record-spec =

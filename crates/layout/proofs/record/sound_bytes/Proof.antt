@@ -18,7 +18,8 @@ record-zero-requires c κs = search needs
 
 returns : tie.Need-returns
 returns c =
-    let a = c .before .before .before .before .args in
+    let at-start = c .before .before .before .before in
+    let a = at-start .args in
     c .record-zero .ensures ∙ dormant-tests (a .s .now) (omega arith) (a .kind) (c .before .if1 .taken)
 
 record-form-requires : tie.Need-record-form-requires
@@ -27,7 +28,8 @@ record-form-requires c κs = search needs
 returns-2 : tie.Need-returns-2
 unfolding soundBytes
 returns-2 c =
-    let a = c .before .before .before .before .before .args in
+    let at-start = c .before .before .before .before .before in
+    let a = at-start .args in
     let form : recordForm (a .s .now) ≡ false = sym (c .before .record-form .ensures) ∙ not-true _ (c .if2 .taken) in
     rw form
 
@@ -40,8 +42,11 @@ sound-requires c κs = search needs
 returns-3 : tie.Need-returns-3
 unfolding soundBytes
 returns-3 c =
-    let a = c .before .before .before .before .before .before .before .args in
-    let form : recordForm (a .s .now) ≡ true = sym (c .before .before .before .record-form .ensures) ∙ not-false _ (c .before .before .if2 .left) in
+    let after-if2 = c .before .before in
+    let after-record-form = after-if2 .before in
+    let at-start = after-record-form .before .before .before .before in
+    let a = at-start .args in
+    let form : recordForm (a .s .now) ≡ true = sym (after-record-form .record-form .ensures) ∙ not-false _ (after-if2 .if2 .left) in
     let fields : c .sound .result ≡ sound (a .kind) (decodeRecord (a .s .now)) = c .sound .ensures ∙ ap (sound (a .kind)) (c .before .decode-record .ensures) in
     rw form fields
 

@@ -38,9 +38,11 @@ array-read-t25 c = omega arith
 returns : tie.Need-returns
 unfolding bytes encodeReport
 returns c =
-    let a = c .before .before .before .before .args .a in
+    let after-u32-bytes = c .before .before in
+    let at-start = after-u32-bytes .before .before in
+    let a = at-start .args .a in
     λ i.
-    let job = c .before .before .u32-bytes .ensures i in
+    let job = after-u32-bytes .u32-bytes .ensures i in
     let code = c .before .u16-bytes .ensures i in
     c .flags-byte .ensures .0 i ∷ a .used ∷ a .passes ∷ a .next .step
     ∷ getD code 0 0 ∷ getD code 1 0 ∷ 0 ∷ 0

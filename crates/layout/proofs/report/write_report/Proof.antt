@@ -20,7 +20,10 @@ same-length c = search needs
 
 returns : tie.Need-returns
 unfolding bytes encodeReport
-returns c = let e = c .before .before .before .before .before .encode-report .ensures in rw e at (c .before .before .copy .ensures .1)
+returns c =
+    let after-copy = c .before .before in
+    let after-encode-report = after-copy .before .before .before in
+    let e = after-encode-report .encode-report .ensures in rw e at (after-copy .copy .ensures .1)
 
 pub write-report-spec : {M : Type 1} → statement M
 write-report-spec =

@@ -1,0 +1,18 @@
+-- The cases of specs/CallExamples.antt hold of the block machine: the lists are computed. For the reader of document 01.
+use mathlib.Core.Path.{refl}
+use Rattle.kind.specs.Kind.{isEdge, hasAbort, hasTimeLimit, hasTimeOut, isContinuous}
+use Rattle.clock.specs.Clock.{since, tick, past, pastLimit, pastTimeOut}
+use Rattle.block.specs.Dormant.{dormant}
+use Rattle.block.specs.Executing.{executing, judge, usePieces}
+use Rattle.block.specs.Ended.{ended}
+use Rattle.block.specs.Aborting.{aborting}
+use Rattle.block.specs.Resetting.{resetting}
+use Rattle.block.specs.Rules.{rule}
+use Rattle.block.specs.Call.{callWithin, callOf}
+use Rattle.block.specs.WorkedExamples.{rowsFrom}
+use Rattle.block.specs.CallExamples.{withoutLimit, untilLimit, endOfPieces, bounds, abortsAndResets, moreCases, CallExamples}
+
+pub call-examples : CallExamples
+unfolding moreCases withoutLimit untilLimit endOfPieces bounds abortsAndResets rowsFrom callOf callWithin rule dormant executing judge usePieces ended aborting resetting
+    isEdge hasAbort hasTimeLimit hasTimeOut isContinuous since tick past pastLimit pastTimeOut
+call-examples = refl
