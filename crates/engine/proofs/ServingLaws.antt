@@ -25,7 +25,7 @@ use Rattle.block.specs.declared.entry.Entry.{Entry}
 use Rattle.block.proofs.Tests.{each}
 use Rattle.engine.specs.Told.{Told}
 use Rattle.engine.specs.Serve.{Buffers, entryIn, served, servedTo}
-use Rattle.engine.specs.Callable.{Callable, Reached}
+use Rattle.engine.specs.Callable.{Callable, Reached, HasRoom}
 use Rattle.engine.specs.ScanAccepted.{StateFits, GivenFits}
 use Rattle.engine.proofs.ServedLaws.{buffersAt, outcomeAt, state-length, state-later, report-sized, events-few}
 
@@ -94,7 +94,7 @@ module _ (blocks : List Block) (told : Told) (state₀ report₀ journal₀ : Li
 
     -- the next block of an accepted table can be called
     pub serving-callable : (image : List ℕ) (n : ℕ) → checkOf image ≡ Blocks n → blocks ≡ blocksOf image → StateFits blocks state₀ → GivenFits blocks told report₀ journal₀ → i < n
-        → (Callable (b .kind) i (told .frame) state × Reached b state) × ((reportLength * i + reportLength ≤ length report) × (eventLength * events + 2 * eventLength ≤ length journal))
+        → (Callable (b .kind) i (told .frame) state × Reached b state) × HasRoom i events report journal
     serving-callable image n ok from s g l =
         let z = serving-sized s g in
         let c : length blocks ≡ n = ap length from ∙ accepted-blocks image n ok in (
@@ -111,8 +111,5 @@ module _ (blocks : List Block) (told : Told) (state₀ report₀ journal₀ : Li
               abort = rw (eb, from) (omega (arith, z .0, s .sized, accepted-abort image n ok i l .within));
             },
           ),
-          (
-            omega (arith, z .1, g .reportSized),
-            omega (arith, z .2, z .3, g .room),
-          ),
+          record { reported = omega (arith, z .1, g .reportSized); posted = omega (arith, z .2, z .3, g .room) },
         )

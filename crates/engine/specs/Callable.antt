@@ -6,7 +6,7 @@ use mathlib.Core.Path.{_≡_}
 use lib.ListN.{length}
 use Rattle.image.specs.Image.{mostSlots}
 use Rattle.table.specs.declared.blocks.Wiring.{Wiring}
-use Rattle.layout.specs.Buffer.{recordLength, entryLength, part}
+use Rattle.layout.specs.Buffer.{recordLength, entryLength, reportLength, eventLength, part}
 use Rattle.layout.specs.RecordLayout.{soundBytes}
 use Rattle.engine.specs.Serve.{entryIn}
 
@@ -17,6 +17,11 @@ pub record Callable (kind i : ℕ) (frame state : List ℕ) : Type 0 where
   pub entry : entryLength * i + entryLength ≤ length frame
   pub isSound : soundBytes kind (part recordLength i state) ≡ true
   pub pieces : entryIn frame i .count ≤ 4
+
+-- its report entry, and two events after those so far
+pub record HasRoom (i events : ℕ) (report journal : List ℕ) : Type 0 where
+  pub reported : reportLength * i + reportLength ≤ length report
+  pub posted : eventLength * events + 2 * eventLength ≤ length journal
 
 -- its wires
 pub record Reached (b : Wiring) (state : List ℕ) : Type 0 where

@@ -33,7 +33,9 @@ fn serve_all(
     requires { ⌜ Accepted (now image) count (now slots) (now positions) ⌝ }
     requires { ⌜ StateFits (blocksOf (now image)) (now state) ⌝ }
     requires { ⌜ GivenFits (blocksOf (now image)) (record { frame = now frame }) (now report) (now journal) ⌝ }
-    ensures { λ r. ⌜ record { state = now (state .exit); report = now (report .exit); journal = now (journal .exit); events = r } ≡ servedTo (blocksOf (now (image .entry))) (record { frame = now (frame .entry) }) count (record { state = now (state .entry); report = now (report .entry); journal = now (journal .entry); events = 0 }) ⌝ }
+    ensures { λ r. ⌜ record { state = now (state .exit); report = now (report .exit); journal = now (journal .exit); events = r }
+        ≡ servedTo (blocksOf (now (image .entry))) (record { frame = now (frame .entry) }) count
+        (record { state = now (state .entry); report = now (report .entry); journal = now (journal .entry); events = 0 }) ⌝ }
 {
     let mut events = 0;
     let mut i = 0;
@@ -77,7 +79,8 @@ fn scan_blocks(
     journal: &mut [u8],
 ) -> Scanned
     requires { ⌜ Accepted (now image) count (now slots) (now positions) ⌝ }
-    ensures { λ r. ⌜ record { answer = r; state = now (state .exit); report = now (report .exit); journal = now (journal .exit) } ≡ scanBlocks (blocksOf (now (image .entry))) (now (state .entry)) (record { frame = now (frame .entry) }) (now (report .entry)) (now (journal .entry)) ⌝ }
+    ensures { λ r. ⌜ record { answer = r; state = now (state .exit); report = now (report .exit); journal = now (journal .exit) }
+        ≡ scanBlocks (blocksOf (now (image .entry))) (now (state .entry)) (record { frame = now (frame .entry) }) (now (report .entry)) (now (journal .entry)) ⌝ }
 {
     let verdict = verify(
         image,
@@ -113,11 +116,16 @@ pub fn scan(
     report: &mut [u8],
     journal: &mut [u8],
 ) -> Scanned
-    ensures answer { λ r. ⌜ r ≡ scanOf (now (image .entry)) (now (state .entry)) (record { frame = now (frame .entry) }) (now (report .entry)) (now (journal .entry)) .answer ⌝ }
-    ensures numbers { λ r. ⌜ scanAnswer r ≡ scanAnswer (scanOf (now (image .entry)) (now (state .entry)) (record { frame = now (frame .entry) }) (now (report .entry)) (now (journal .entry)) .answer) ⌝ }
-    ensures state { λ _. ⌜ now (state .exit) ≡ scanOf (now (image .entry)) (now (state .entry)) (record { frame = now (frame .entry) }) (now (report .entry)) (now (journal .entry)) .state ⌝ }
-    ensures report { λ _. ⌜ now (report .exit) ≡ scanOf (now (image .entry)) (now (state .entry)) (record { frame = now (frame .entry) }) (now (report .entry)) (now (journal .entry)) .report ⌝ }
-    ensures journal { λ _. ⌜ now (journal .exit) ≡ scanOf (now (image .entry)) (now (state .entry)) (record { frame = now (frame .entry) }) (now (report .entry)) (now (journal .entry)) .journal ⌝ }
+    ensures answer { λ r. ⌜ r
+        ≡ scanOf (now (image .entry)) (now (state .entry)) (record { frame = now (frame .entry) }) (now (report .entry)) (now (journal .entry)) .answer ⌝ }
+    ensures numbers { λ r. ⌜ scanAnswer r
+        ≡ scanAnswer (scanOf (now (image .entry)) (now (state .entry)) (record { frame = now (frame .entry) }) (now (report .entry)) (now (journal .entry)) .answer) ⌝ }
+    ensures state { λ _. ⌜ now (state .exit)
+        ≡ scanOf (now (image .entry)) (now (state .entry)) (record { frame = now (frame .entry) }) (now (report .entry)) (now (journal .entry)) .state ⌝ }
+    ensures report { λ _. ⌜ now (report .exit)
+        ≡ scanOf (now (image .entry)) (now (state .entry)) (record { frame = now (frame .entry) }) (now (report .entry)) (now (journal .entry)) .report ⌝ }
+    ensures journal { λ _. ⌜ now (journal .exit)
+        ≡ scanOf (now (image .entry)) (now (state .entry)) (record { frame = now (frame .entry) }) (now (report .entry)) (now (journal .entry)) .journal ⌝ }
 {
     let mut slots = [0u8; MOST_SLOTS];
     let mut positions = [0u8; MOST_SLOTS + 1];

@@ -19,7 +19,7 @@ ghost use Rattle.layout.specs.ReportLayout.{encodeReport};
 ghost use Rattle.layout.specs.EventLayout.{encodeEvents};
 ghost use Rattle.engine.specs.Inputs.{flagsIn, inputsOf};
 ghost use Rattle.engine.specs.Serve.{recordIn, entryIn, idle, written, served};
-ghost use Rattle.engine.specs.Callable.{Callable, Reached};
+ghost use Rattle.engine.specs.Callable.{Callable, Reached, HasRoom};
 
 // The inputs of the block at index i: its wires, else the bits of its entry.
 fn inputs_at(b: Wiring, i: usize, frame: &[u8], state: &[u8]) -> Inputs
@@ -94,8 +94,11 @@ fn write_call(
     journal: &mut [u8],
     events: usize,
 ) -> usize
-    requires { ⌜ (i < mostSlots) × (recordLength * i + recordLength ≤ length (now state)) × (reportLength * i + reportLength ≤ length (now report)) × (eventLength * events + 2 * eventLength ≤ length (now journal)) ⌝ }
-    ensures { λ r. ⌜ record { state = now (state .exit); report = now (report .exit); journal = now (journal .exit); events = r } ≡ written i (outcomeOf a) (record { state = now (state .entry); report = now (report .entry); journal = now (journal .entry); events = events }) ⌝ }
+    requires { ⌜ (i < mostSlots) × (recordLength * i + recordLength ≤ length (now state)) ⌝ }
+    requires { ⌜ HasRoom i events (now report) (now journal) ⌝ }
+    ensures { λ r. ⌜ record { state = now (state .exit); report = now (report .exit); journal = now (journal .exit); events = r }
+        ≡ written i (outcomeOf a)
+        (record { state = now (state .entry); report = now (report .entry); journal = now (journal .entry); events = events }) ⌝ }
 {
     let next = a.next;
     layout::record::put_record(state, RECORD_BYTES * i, next);
@@ -114,8 +117,10 @@ pub fn serve(
     events: usize,
 ) -> usize
     requires { ⌜ Callable (b .kind) i (now frame) (now state) × Reached b (now state) ⌝ }
-    requires { ⌜ (reportLength * i + reportLength ≤ length (now report)) × (eventLength * events + 2 * eventLength ≤ length (now journal)) ⌝ }
-    ensures { λ r. ⌜ record { state = now (state .exit); report = now (report .exit); journal = now (journal .exit); events = r } ≡ served b i (now (frame .entry)) (record { state = now (state .entry); report = now (report .entry); journal = now (journal .entry); events = events }) ⌝ }
+    requires { ⌜ HasRoom i events (now report) (now journal) ⌝ }
+    ensures { λ r. ⌜ record { state = now (state .exit); report = now (report .exit); journal = now (journal .exit); events = r }
+        ≡ served b i (now (frame .entry))
+        (record { state = now (state .entry); report = now (report .entry); journal = now (journal .entry); events = events }) ⌝ }
 {
     let inputs = inputs_at(b, i, frame, &state[..]);
     if is_idle(inputs, i, &state[..]) {

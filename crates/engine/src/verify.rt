@@ -113,7 +113,8 @@ pub fn verify(
     journal: &[u8],
 ) -> Verdict
     requires { ⌜ Accepted (now image) count (now slots) (now positions) ⌝ }
-    ensures { λ r. ⌜ r ≡ verifyOf (blocksOf (now (image .entry))) (now (state .entry)) (record { frame = now (frame .entry) }) (now (report .entry)) (now (journal .entry)) ⌝ }
+    ensures { λ r. ⌜ r
+        ≡ verifyOf (blocksOf (now (image .entry))) (now (state .entry)) (record { frame = now (frame .entry) }) (now (report .entry)) (now (journal .entry)) ⌝ }
 {
     let of_state = check_state(image, slots, positions, count, state);
     let Verdict::Passed = of_state else {

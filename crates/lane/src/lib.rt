@@ -73,11 +73,16 @@ pub extern "C" fn lane_scan(
     report: &mut [u8],
     journal: &mut [u8],
 ) -> u64
-    ensures answer { λ r. ⌜ r ≡ packed (scanAnswer (scanOf (now (image .entry)) (now (state .entry)) (record { frame = now (frame .entry) }) (now (report .entry)) (now (journal .entry)) .answer)) ⌝ }
-    ensures unpacks { λ r. ⌜ unpacked r ≡ scanAnswer (scanOf (now (image .entry)) (now (state .entry)) (record { frame = now (frame .entry) }) (now (report .entry)) (now (journal .entry)) .answer) ⌝ }
-    ensures state { λ _. ⌜ now (state .exit) ≡ scanOf (now (image .entry)) (now (state .entry)) (record { frame = now (frame .entry) }) (now (report .entry)) (now (journal .entry)) .state ⌝ }
-    ensures report { λ _. ⌜ now (report .exit) ≡ scanOf (now (image .entry)) (now (state .entry)) (record { frame = now (frame .entry) }) (now (report .entry)) (now (journal .entry)) .report ⌝ }
-    ensures journal { λ _. ⌜ now (journal .exit) ≡ scanOf (now (image .entry)) (now (state .entry)) (record { frame = now (frame .entry) }) (now (report .entry)) (now (journal .entry)) .journal ⌝ }
+    ensures answer { λ r. ⌜ r
+        ≡ packed (scanAnswer (scanOf (now (image .entry)) (now (state .entry)) (record { frame = now (frame .entry) }) (now (report .entry)) (now (journal .entry)) .answer)) ⌝ }
+    ensures unpacks { λ r. ⌜ unpacked r
+        ≡ scanAnswer (scanOf (now (image .entry)) (now (state .entry)) (record { frame = now (frame .entry) }) (now (report .entry)) (now (journal .entry)) .answer) ⌝ }
+    ensures state { λ _. ⌜ now (state .exit)
+        ≡ scanOf (now (image .entry)) (now (state .entry)) (record { frame = now (frame .entry) }) (now (report .entry)) (now (journal .entry)) .state ⌝ }
+    ensures report { λ _. ⌜ now (report .exit)
+        ≡ scanOf (now (image .entry)) (now (state .entry)) (record { frame = now (frame .entry) }) (now (report .entry)) (now (journal .entry)) .report ⌝ }
+    ensures journal { λ _. ⌜ now (journal .exit)
+        ≡ scanOf (now (image .entry)) (now (state .entry)) (record { frame = now (frame .entry) }) (now (report .entry)) (now (journal .entry)) .journal ⌝ }
 {
     pack_scanned(engine::scan::scan(image, state, frame, report, journal))
 }

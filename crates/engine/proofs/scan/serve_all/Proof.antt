@@ -9,7 +9,8 @@ use Rattle.engine.proofs.scan.serve_all.Statement.{statement}
 use Rattle.engine.proofs.scan.serve_all.Tie as tie
 
 abbrev Inv-loop : tie.InvT-loop
-Inv-loop image slots positions count state₀ frame report₀ journal₀ events₀ i₀ state report journal events i = Serving (blocksOf image) (record { frame = frame }) state₀ report₀ journal₀ i state report journal events
+Inv-loop image slots positions count state₀ frame report₀ journal₀ events₀ i₀ state report journal events i =
+    Serving (blocksOf image) (record { frame = frame }) state₀ report₀ journal₀ i state report journal events
 
 abbrev μ-loop : tie.MeasureT-loop
 μ-loop image slots positions count state₀ frame report₀ journal₀ events₀ i₀ state report journal events i = count - i

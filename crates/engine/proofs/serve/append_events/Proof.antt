@@ -23,8 +23,9 @@ same-length c = search needs
 
 returns-2 : tie.Need-returns-2
 returns-2 c =
-    let g = c .before .before .before .before .before .before .before .before .before .args in
-    append-one (g .events) (g .position) (g .a .first) (g .a .second) (g .a .count) (g .journal .now) _ (c .if2 .taken) (c .before .before .before .before .put-event .ensures)
+    let first = c .before .before .before .before in
+    let a = first .before .before .before .before .before .args in
+    append-one (a .events) (a .position) (a .a .first) (a .a .second) (a .a .count) (a .journal .now) _ (c .if2 .taken) (first .put-event .ensures)
 
 mul-put-event-2 : tie.Need-mul-put-event-2
 mul-put-event-2 c = search needs
@@ -43,8 +44,13 @@ same-length-2 c = search needs
 
 returns-3 : tie.Need-returns-3
 returns-3 c =
-    let g = c .before .before .before .before .before .before .before .before .before .before .before .before .before .args in
-    append-two (g .events) (g .position) (g .a .first) (g .a .second) (g .a .count) (g .journal .now) _ _ (c .before .before .before .before .before .before .before .before .before .before .if1 .left) (c .before .before .before .before .if2 .left) (c .before .before .before .before .before .before .before .before .before .before .before .before .before .pre) (c .before .before .before .before .before .before .before .before .put-event .ensures) (c .before .before .put-event2 .ensures)
+    let second = c .before .before in
+    let several = second .before .before in
+    let first = several .before .before .before .before in
+    let entry = first .before .before .before .before .before in
+    let a = entry .args in
+    append-two (a .events) (a .position) (a .a .first) (a .a .second) (a .a .count) (a .journal .now) _ _
+    (first .before .before .if1 .left) (several .if2 .left) (entry .pre) (first .put-event .ensures) (second .put-event2 .ensures)
 
 pub append-events-spec : {M : Type 1} → statement M
 append-events-spec =

@@ -46,16 +46,18 @@ decode-entry-requires c κs = search needs
 
 call-requires : tie.Need-call-requires
 call-requires c κs =
-    let a = c .before .before .before .before .before .before .args in
-    let pre = c .before .before .before .before .before .before .pre in
-    let r : c .before .before .decode-record .result ≡ recordIn (a .state .now) (a .i) = rw add-sub-cancel-left at (c .before .before .decode-record .ensures) in
+    let decoded = c .before .before in
+    let entry = decoded .before .before .before .before in
+    let a = entry .args in
+    let r : decoded .decode-record .result ≡ recordIn (a .state .now) (a .i) = rw add-sub-cancel-left at (decoded .decode-record .ensures) in
     let e : c .decode-entry .result ≡ entryIn (a .frame .now) (a .i) = rw add-sub-cancel-left at (c .decode-entry .ensures) in
-    (rw e (pre .pieces), rw r (sound-record _ _ (pre .isSound)))
+    (rw e (entry .pre .pieces), rw r (sound-record _ _ (entry .pre .isSound)))
 
 returns : tie.Need-returns
 returns c =
-    let a = c .before .before .before .before .before .before .before .args in
-    let r : c .before .before .before .decode-record .result ≡ recordIn (a .state .now) (a .i) = rw add-sub-cancel-left at (c .before .before .before .decode-record .ensures) in
+    let decoded = c .before .before .before in
+    let a = decoded .before .before .before .before .args in
+    let r : decoded .decode-record .result ≡ recordIn (a .state .now) (a .i) = rw add-sub-cancel-left at (decoded .decode-record .ensures) in
     let e : c .before .decode-entry .result ≡ entryIn (a .frame .now) (a .i) = rw add-sub-cancel-left at (c .before .decode-entry .ensures) in
     c .call .ensures .1 ∙ (λ j. callOf (a .kind) (a .inputs) (e j) (r j))
 

@@ -2,6 +2,7 @@
 use Prim.Native.Nat.{_*_}
 use borrow.Author.Needs.{needs}
 use Rattle.block.specs.CallResult.{outcomeOf}
+use Rattle.layout.specs.Buffer.{reportLength}
 use Rattle.layout.specs.ReportLayout.{encodeReport}
 use Rattle.layout.proofs.BufferLaws.{put-front}
 use Rattle.layout.proofs.ReportLaws.{report-length}
@@ -30,7 +31,7 @@ returns : tie.Need-returns
 returns c =
     let g = c .before .before .before .before .before .args in
     let o = outcomeOf (g .a) in
-    put-front (12 * g .i) 12 (g .report .now) (encodeReport o) (c .before .before .write-report .last .0) (report-length o) (c .before .before .write-report .ensures)
+    put-front (reportLength * g .i) reportLength (g .report .now) (encodeReport o) (c .before .before .write-report .last .0) (report-length o) (c .before .before .write-report .ensures)
 
 pub report-call-spec : {M : Type 1} → statement M
 report-call-spec =

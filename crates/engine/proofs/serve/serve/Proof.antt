@@ -17,7 +17,7 @@ idle-requires c κs = search needs
 report-call-requires : tie.Need-report-call-requires
 report-call-requires c κs =
     let resolved = c .before .before .before .before .before in
-    resolved .before .before .before .before .before .before .pre .1 .0
+    resolved .before .before .before .before .before .before .pre .1 .reported
 
 same-length : tie.Need-same-length
 same-length c = search needs
@@ -42,7 +42,7 @@ write-call-requires : tie.Need-write-call-requires
 write-call-requires c κs =
     let resolved = c .before .before .before .before .before .before .before .before in
     let entry = resolved .before .before .before .before .before .before in
-    (entry .pre .0 .0 .few, entry .pre .0 .0 .own, entry .pre .1 .0, entry .pre .1 .1)
+    ((entry .pre .0 .0 .few, entry .pre .0 .0 .own), entry .pre .1)
 
 same-length-3 : tie.Need-same-length-3
 same-length-3 c = search needs

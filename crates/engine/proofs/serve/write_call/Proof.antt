@@ -11,7 +11,9 @@ put-record-requires : tie.Need-put-record-requires
 put-record-requires c κs = search needs
 
 report-call-requires : tie.Need-report-call-requires
-report-call-requires c κs = search needs
+report-call-requires c κs =
+    let recorded = c .before .before .before in
+    recorded .before .before .before .before .before .before .pre .1 .reported
 
 add-append-events : tie.Need-add-append-events
 add-append-events c = search needs
@@ -20,7 +22,10 @@ cast-append-events : tie.Need-cast-append-events
 cast-append-events c = search needs
 
 append-events-requires : tie.Need-append-events-requires
-append-events-requires c κs = search needs
+append-events-requires c κs =
+    let reported = c .before .before .before in
+    let recorded = reported .before .before .before .before in
+    recorded .before .before .before .before .before .before .pre .1 .posted
 
 same-length : tie.Need-same-length
 same-length c = search needs
@@ -33,9 +38,12 @@ same-length-3 c = search needs
 
 returns : tie.Need-returns
 returns c =
-    let g = c .before .before .before .before .before .before .before .before .before .before .before .before .before .before .before .before .args in
-    written-is (g .i) (g .state .now) (g .report .now) (g .journal .now) (g .events) (g .a) _ _ _ _
-    (c .before .before .before .before .before .before .before .before .before .before .put-record .ensures) (c .before .before .before .before .before .before .report-call .ensures) (c .before .before .append-events .ensures .1) (c .before .before .append-events .ensures .0)
+    let appended = c .before .before in
+    let reported = appended .before .before .before .before in
+    let recorded = reported .before .before .before .before in
+    let a = recorded .before .before .before .before .before .before .args in
+    written-is (a .i) (a .state .now) (a .report .now) (a .journal .now) (a .events) (a .a) _ _ _ _
+    (recorded .put-record .ensures) (reported .report-call .ensures) (appended .append-events .ensures .1) (appended .append-events .ensures .0)
 
 pub write-call-spec : {M : Type 1} → statement M
 write-call-spec =

@@ -47,8 +47,9 @@ cast-t13 c = omega arith
 
 returns : tie.Need-returns Inv-loop μ-loop
 returns c =
-    let a = c .before .before .before .before .before .before .args in
-    let L = c .before .before .before .before .loop in
+    let in-loop = c .before .before .before .before in
+    let a = in-loop .before .before .args in
+    let L = in-loop .loop in
     λ blocks n.
     let t : c .before .entry-bytes .result ≡ frameTest (a .frame .now) (L .i) (blockAt blocks (L .i)) = rw add-sub-cancel-left at (c .before .entry-bytes .ensures) in
     left-failed (frameTest (a .frame .now)) 31 (formFrom (a .frame .now)) (frame-each (a .frame .now)) blocks (L .i) (L .inv blocks n)
@@ -62,8 +63,9 @@ loop-less c = omega arith
 
 loop-again : tie.Need-loop-again Inv-loop μ-loop
 loop-again c =
-    let a = c .before .before .before .before .before .before .args in
-    let L = c .before .before .before .before .loop in
+    let in-loop = c .before .before .before .before in
+    let a = in-loop .before .before .args in
+    let L = in-loop .loop in
     λ blocks n.
     let t : c .before .entry-bytes .result ≡ frameTest (a .frame .now) (L .i) (blockAt blocks (L .i)) = rw add-sub-cancel-left at (c .before .entry-bytes .ensures) in
     left-on (frameTest (a .frame .now)) 31 (formFrom (a .frame .now)) (frame-each (a .frame .now)) blocks (L .i) (L .inv blocks n)

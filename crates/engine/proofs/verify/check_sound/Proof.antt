@@ -21,7 +21,9 @@ loop-holds : tie.Need-loop-holds Inv-loop μ-loop
 loop-holds c = refl
 
 kind-at-requires : tie.Need-kind-at-requires Inv-loop μ-loop
-kind-at-requires c κs = (c .before .before .before .before .pre .0, c .loop-test .taken)
+kind-at-requires c κs =
+    let entry = c .before .before .before .before in
+    (entry .pre .0, c .loop-test .taken)
 
 mul-at : tie.Need-mul-at Inv-loop μ-loop
 mul-at c = omega arith
@@ -42,32 +44,42 @@ sound-bytes-requires : tie.Need-sound-bytes-requires Inv-loop μ-loop
 sound-bytes-requires c κs = search needs
 
 add-t16 : tie.Need-add-t16 Inv-loop μ-loop
-add-t16 c = omega (arith, c .before .before .before .before .before .before .before .before .pre .0 .chain .few)
+add-t16 c =
+    let in-loop = c .before .before .before .before .before in
+    omega (arith, in-loop .before .before .before .pre .0 .chain .few)
 
 cast-t17 : tie.Need-cast-t17 Inv-loop μ-loop
-cast-t17 c = omega (arith, c .before .before .before .before .before .before .before .before .pre .0 .chain .few)
+cast-t17 c =
+    let in-loop = c .before .before .before .before .before in
+    omega (arith, in-loop .before .before .before .pre .0 .chain .few)
 
 returns : tie.Need-returns Inv-loop μ-loop
 returns c =
-    let a = c .before .before .before .before .before .before .before .before .args in
-    let L = c .before .before .before .before .before .loop in
-    let n = accepted-blocks (a .image .now) (a .count) (c .before .before .before .before .before .before .before .before .pre .0 .answer) in
+    let in-loop = c .before .before .before .before .before in
+    let entry = in-loop .before .before .before in
+    let a = entry .args in
+    let L = in-loop .loop in
+    let n = accepted-blocks (a .image .now) (a .count) (entry .pre .0 .answer) in
     let t : c .before .sound-bytes .result ≡ stateTest (a .state .now) (L .i) (blockAt (blocksOf (a .image .now)) (L .i)) =
     rw (add-sub-cancel-left, c .before .before .before .kind-at .ensures) at (c .before .sound-bytes .ensures) in
     left-failed (stateTest (a .state .now)) 21 (soundFrom (a .state .now)) (state-each (a .state .now)) (blocksOf (a .image .now)) (L .i) (L .inv)
     (omega (arith, c .before .before .before .before .loop-test .taken)) (sym t ∙ not-true _ (c .if1 .taken))
 
 add-i : tie.Need-add-i Inv-loop μ-loop
-add-i c = omega (arith, c .before .before .before .before .before .before .before .before .pre .0 .chain .few)
+add-i c =
+    let in-loop = c .before .before .before .before .before in
+    omega (arith, in-loop .before .before .before .pre .0 .chain .few)
 
 loop-less : tie.Need-loop-less Inv-loop μ-loop
 loop-less c = omega arith
 
 loop-again : tie.Need-loop-again Inv-loop μ-loop
 loop-again c =
-    let a = c .before .before .before .before .before .before .before .before .args in
-    let L = c .before .before .before .before .before .loop in
-    let n = accepted-blocks (a .image .now) (a .count) (c .before .before .before .before .before .before .before .before .pre .0 .answer) in
+    let in-loop = c .before .before .before .before .before in
+    let entry = in-loop .before .before .before in
+    let a = entry .args in
+    let L = in-loop .loop in
+    let n = accepted-blocks (a .image .now) (a .count) (entry .pre .0 .answer) in
     let t : c .before .sound-bytes .result ≡ stateTest (a .state .now) (L .i) (blockAt (blocksOf (a .image .now)) (L .i)) =
     rw (add-sub-cancel-left, c .before .before .before .kind-at .ensures) at (c .before .sound-bytes .ensures) in
     left-on (stateTest (a .state .now)) 21 (soundFrom (a .state .now)) (state-each (a .state .now)) (blocksOf (a .image .now)) (L .i) (L .inv)
@@ -75,9 +87,10 @@ loop-again c =
 
 returns-2 : tie.Need-returns-2 Inv-loop μ-loop
 returns-2 c =
-    let a = c .before .before .before .before .args in
+    let entry = c .before .before .before .before in
+    let a = entry .args in
     let L = c .before .loop in
-    let n = accepted-blocks (a .image .now) (a .count) (c .before .before .before .before .pre .0 .answer) in
+    let n = accepted-blocks (a .image .now) (a .count) (entry .pre .0 .answer) in
     left-end (stateTest (a .state .now)) 21 (soundFrom (a .state .now)) (state-each (a .state .now)) (blocksOf (a .image .now)) (L .i) (L .inv) (omega (arith, c .loop-test .left))
 
 pub check-sound-spec : {M : Type 1} → statement M
