@@ -8,3 +8,4 @@ pub mod AnswerLaws
 pub mod RefusalLaws
 pub mod ScanAccepted
 pub mod FreshLaws
+pub mod Refusals

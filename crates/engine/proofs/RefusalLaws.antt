@@ -4,7 +4,7 @@ use native.Mathlib.Omega.{arith}
 use mathlib.Core.List.{List}
 use lib.Dec.{eqb, leb}
 use lib.ListN.{length}
-use Rattle.table.specs.Place.{andThen}
+use Rattle.table.specs.Place.{thenCheck}
 use Rattle.table.specs.Blocks.{Block}
 use Rattle.table.specs.declared.place.Place.the-variants.{Header}
 use Rattle.table.specs.declared.place.Verdict.the-variants.{Passed}
@@ -42,7 +42,7 @@ unfolding verifyOf
 verify-bounded blocks state told report journal =
     let n = length blocks in
     let rest = lentCheck blocks report journal in
-    bounded-then 41 n (stateCheck blocks state) (andThen (frameCheck blocks (told .frame)) rest) (state-bounded blocks 41 (omega arith) state)
+    bounded-then 41 n (stateCheck blocks state) (thenCheck (frameCheck blocks (told .frame)) rest) (state-bounded blocks 41 (omega arith) state)
     (bounded-then 41 n (frameCheck blocks (told .frame)) rest (frame-bounded blocks 41 (omega arith) (told .frame)) (lent-bounded blocks 41 (omega arith) report journal))
 
 -- check 20, which fresh makes

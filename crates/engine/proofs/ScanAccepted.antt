@@ -10,7 +10,7 @@ use mathlib.Core.Path.{_≡_, refl}
 use lib.Dec.{eqb, leb}
 use lib.ListN.{length}
 use borrow.Author.Tests.{eqb-true, leb-true, eq-eqb, le-leb}
-use Rattle.table.specs.Place.{require, andThen}
+use Rattle.table.specs.Place.{require, thenCheck}
 use Rattle.table.specs.Blocks.{Block, blocksOf, blockAt}
 use Rattle.table.specs.Check.{checkOf}
 use Rattle.table.specs.declared.place.Place.{Place}
@@ -83,7 +83,7 @@ module _ (blocks : List Block) where
 pub verify-passes : VerifyPassesExactly
 unfolding verifyOf
 verify-passes blocks state told report journal =
-    let below = andThen (frameCheck blocks (told .frame)) (lentCheck blocks report journal) in
+    let below = thenCheck (frameCheck blocks (told .frame)) (lentCheck blocks report journal) in
     let group = group-passes (stateCheck blocks state) below in
     let rest = rest-passes (stateCheck blocks state) below in
     record {

@@ -6,3 +6,4 @@ pub mod Callable
 pub mod Fresh
 pub mod Scan
 pub mod ScanAccepted
+pub mod Refusals

@@ -4,7 +4,7 @@ use Prim.Native.Nat.{ℕ, suc, _*_}
 use mathlib.Core.List.{List, [], _∷_}
 use lib.Dec.{eqb, leb}
 use lib.ListN.{length}
-use Rattle.table.specs.Place.{require, andThen}
+use Rattle.table.specs.Place.{require, thenCheck}
 use Rattle.table.specs.Blocks.{Block}
 use Rattle.table.specs.declared.place.Place.the-variants.{Header, Position}
 use Rattle.table.specs.declared.place.Verdict.{Verdict}
@@ -54,6 +54,6 @@ lentCheck blocks report journal = reportLengthIs blocks report (journalLength bl
 -- "then ... the scan 20 to 41"; "Checks run from the top down, the first that fails is given"
 unfoldable pub verifyOf : List Block → List ℕ → Told → List ℕ → List ℕ → Verdict
 verifyOf blocks state told report journal =
-    andThen (stateCheck blocks state)
-    (andThen (frameCheck blocks (told .frame))
+    thenCheck (stateCheck blocks state)
+    (thenCheck (frameCheck blocks (told .frame))
     (lentCheck blocks report journal))

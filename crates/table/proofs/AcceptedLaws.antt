@@ -12,9 +12,9 @@ use lib.ListN.{length, getD, take}
 use lib.Seq.{getD-take, length-take-le}
 use Rattle.kind.specs.Kind.{isKind, hasAbort}
 use Rattle.membership.specs.Membership.{among}
-use Rattle.table.specs.Place.{andThen}
+use Rattle.table.specs.Place.{thenCheck}
 use Rattle.image.specs.Image.{mostSlots, slotCount, kindOf, wireSlot, wireCode, startWire, abortWire, tagOf, HasSlot}
-use Rattle.table.specs.Header.{headerCheck, Headed}
+use Rattle.table.specs.Header.{headerCheck, HeaderOk}
 use Rattle.table.specs.Tag.{tagForm, sameBytes}
 use Rattle.table.specs.Walk.{walked}
 use Rattle.table.specs.Chain.{chainOf, chainVerdict, positionOf}
@@ -33,7 +33,7 @@ use Rattle.membership.proofs.AmongLaws.{all-at, all-among}
 use Rattle.table.proofs.PositionLaws.{position-bound, position-some}
 use Rattle.table.proofs.ChainLaws.{chain-in, chain-few, chain-distinct, has-slot}
 use Rattle.table.proofs.TagLaws.{same-self}
-use Rattle.table.proofs.CheckLaws.{headed-by, passed-by, blocks-by}
+use Rattle.table.proofs.CheckLaws.{header-ok-by, passed-by, blocks-by}
 use Rattle.table.proofs.BlockLaws.{blocks-length, block-is}
 
 -- a record that passed its checks
@@ -105,10 +105,10 @@ module _ (image : List ℕ) (n : ℕ) (ok : checkOf image ≡ Blocks n) where
   passed = passed-by (verdictOf image) (length (chainOf image)) n ok
 
   abbrev from-records : Verdict
-  from-records = andThen (recordsCheck image) (sparesCheck image)
+  from-records = thenCheck (recordsCheck image) (sparesCheck image)
 
   abbrev from-chain : Verdict
-  from-chain = andThen (chainVerdict (walked image)) from-records
+  from-chain = thenCheck (chainVerdict (walked image)) from-records
 
   chain-on : from-chain ≡ Passed
   unfolding verdictOf
@@ -131,8 +131,8 @@ module _ (image : List ℕ) (n : ℕ) (ok : checkOf image ≡ Blocks n) where
   pub accepted-spares : sparesCheck image ≡ Passed
   accepted-spares = rest-passes (recordsCheck image) (sparesCheck image) records-on
 
-  pub accepted-headed : Headed image
-  accepted-headed = headed-by image accepted-header
+  pub accepted-header-ok : HeaderOk image
+  accepted-header-ok = header-ok-by image accepted-header
 
   -- the number of blocks
   pub accepted-count : length (chainOf image) ≡ n
@@ -143,7 +143,7 @@ module _ (image : List ℕ) (n : ℕ) (ok : checkOf image ≡ Blocks n) where
   accepted-blocks = blocks-length image (chainOf image) (chainOf image) ∙ accepted-count
 
   pub accepted-few : n ≤ mostSlots
-  accepted-few = omega (arith, accepted-count, chain-few image, accepted-headed .few)
+  accepted-few = omega (arith, accepted-count, chain-few image, accepted-header-ok .few)
 
   module _ (i : ℕ) (l : i < n) where
     in-chain : i < length (chainOf image)
@@ -154,7 +154,7 @@ module _ (image : List ℕ) (n : ℕ) (ok : checkOf image ≡ Blocks n) where
     accepted-slot = all-at (slotCount image) (chainOf image) i (chain-in image) in-chain
 
     pub accepted-has-slot : HasSlot image (getD (chainOf image) i 0)
-    accepted-has-slot = has-slot image (getD (chainOf image) i 0) accepted-headed (accepted-slot .0) (accepted-slot .1)
+    accepted-has-slot = has-slot image (getD (chainOf image) i 0) accepted-header-ok (accepted-slot .0) (accepted-slot .1)
 
     both : RecordOk image (chainOf image) (getD (chainOf image) i 0) × (tagAmong image (tagOf image (getD (chainOf image) i 0)) (take i (chainOf image)) ≡ false)
     unfolding recordsCheck

@@ -9,7 +9,7 @@ use borrow.Author.Tests.{ltb-false}
 use lib.Dec.{leb, ltb, eqb}
 use lib.ListN.{length}
 use Rattle.membership.specs.Membership.{within, among}
-use Rattle.table.specs.Place.{placeNumber, require, andThen}
+use Rattle.table.specs.Place.{placeNumber, require, thenCheck}
 use Rattle.image.specs.Image.{headerLength, mostSlots, version, slotCount, headSlot, headerZero, nextOf, imageLength, tagOf}
 use Rattle.table.specs.Header.{headerCheck}
 use Rattle.table.specs.Tag.{tagForm}
@@ -37,7 +37,7 @@ pub bounded-require : (most last : ℕ) (b : Bool) (number : ℕ) (place : Place
 bounded-require most last true number place below h k l r = r
 bounded-require most last false number place below h k l r = (h, k, l)
 
-pub bounded-then : (most last : ℕ) (v below : Verdict) → Bounded most last v → Bounded most last below → Bounded most last (andThen v below)
+pub bounded-then : (most last : ℕ) (v below : Verdict) → Bounded most last v → Bounded most last below → Bounded most last (thenCheck v below)
 bounded-then most last Passed below h r = r
 bounded-then most last (Failed number place) below h r = h
 
@@ -90,8 +90,8 @@ verdict-bounded : (image : List ℕ) → Bounded 11 (slotCount image) (verdictOf
 unfolding verdictOf walked recordsCheck sparesCheck
 verdict-bounded image =
     let N = slotCount image in
-    bounded-then 11 N (headerCheck image) (andThen (chainVerdict (walked image)) (andThen (recordsCheck image) (sparesCheck image))) (header-bounded image N)
-    (bounded-then 11 N (chainVerdict (walked image)) (andThen (recordsCheck image) (sparesCheck image)) (chain-bounded (unmet N []) image [] Header (headSlot image) (omega arith))
+    bounded-then 11 N (headerCheck image) (thenCheck (chainVerdict (walked image)) (thenCheck (recordsCheck image) (sparesCheck image))) (header-bounded image N)
+    (bounded-then 11 N (chainVerdict (walked image)) (thenCheck (recordsCheck image) (sparesCheck image)) (chain-bounded (unmet N []) image [] Header (headSlot image) (omega arith))
     (bounded-then 11 N (recordsCheck image) (sparesCheck image) (records-bounded image (chainOf image) [] (chainOf image) N (chain-in image))
     (spares-bounded image (chainOf image) 1 N N (omega arith))))
 

@@ -12,9 +12,9 @@ use lib.ListN.{length, getD, take, set, replicate, length-append, length-set, Li
 use lib.Seq.{take-suc-set, getD-set-same, getD-set-other, getD-take, getD-append-seam, length-take-le}
 use Rattle.membership.specs.Membership.{among}
 use Rattle.image.specs.Image.{mostSlots, slotCount, headSlot, nextOf, HasSlot}
-use Rattle.table.specs.Header.{Headed}
+use Rattle.table.specs.Header.{HeaderOk}
 use Rattle.table.specs.Walk.{Met, Stopped, unmet, walkIn, walkFrom, walked}
-use Rattle.table.specs.Chain.{slotsOf, chainOf, chainVerdict, positionFrom, positionOf, Placed, Holds}
+use Rattle.table.specs.Chain.{slotsOf, chainOf, chainVerdict, positionFrom, positionOf, HoldsPositions, Holds}
 use Rattle.table.specs.declared.place.Place.{Place}
 use Rattle.table.specs.declared.place.Place.the-variants.{Header, Slot}
 use Rattle.table.specs.declared.place.Verdict.{Verdict}
@@ -31,20 +31,20 @@ zero-at (suc n) zero = refl
 zero-at (suc n) (suc k) = zero-at n k
 
 -- positions of no slots, for a walk to begin with
-pub no-slots : Placed [] (replicate (mostSlots + 1) 0)
+pub no-slots : HoldsPositions [] (replicate (mostSlots + 1) 0)
 unfolding positionFrom
 no-slots = record { sized = refl; placed = λ k. zero-at (mostSlots + 1) k }
 
 -- the code's test of a slot is the chain's
-pub on-chain-is : (chain positions : List ℕ) (slot : ℕ) (b : Bool) → Placed chain positions
+pub on-chain-is : (chain positions : List ℕ) (slot : ℕ) (b : Bool) → HoldsPositions chain positions
     → b ≡ not (eqb (getD positions slot 0) 0) → b ≡ among slot chain
 on-chain-is chain positions slot b p e =
     let q : getD positions slot 0 ≡ positionOf slot chain = p .placed slot in
     e ∙ (rw q (position-test slot chain))
 
 -- one slot more in the positions
-store-position : (met positions : List ℕ) (at count : ℕ) → Placed met positions → among at met ≡ false → length met ≡ count → at ≤ mostSlots
-    → Placed (met ++ (at ∷ [])) (set positions at (count + 1))
+store-position : (met positions : List ℕ) (at count : ℕ) → HoldsPositions met positions → among at met ≡ false → length met ≡ count → at ≤ mostSlots
+    → HoldsPositions (met ++ (at ∷ [])) (set positions at (count + 1))
 store-position met positions at count p u e l = record {
   sized = simp length-set (p .sized);
   placed = λ k. by-test (eqb at k)
@@ -65,10 +65,10 @@ pub record Walking (image slots positions : List ℕ) (count : ℕ) (from : Plac
   pub byte : at < 256
   pub few : count ≤ mostSlots
   pub room : count + unmet (slotCount image) (take count slots) ≡ slotCount image
-  pub places : Placed (take count slots) positions
+  pub places : HoldsPositions (take count slots) positions
   pub onward : walkFrom image (take count slots) from at ≡ walked image
 
-pub walking-start : (image slots positions : List ℕ) → length slots ≡ mostSlots → Placed [] positions → headSlot image < 256
+pub walking-start : (image slots positions : List ℕ) → length slots ≡ mostSlots → HoldsPositions [] positions → headSlot image < 256
     → Walking image slots positions 0 Header (headSlot image)
 unfolding walked
 walking-start image slots positions e f h = record {
@@ -80,7 +80,7 @@ walking-start image slots positions e f h = record {
   onward = refl;
 }
 
-module _ (image slots positions : List ℕ) (count : ℕ) (from : Place) (at : ℕ) (hd : Headed image) (w : Walking image slots positions count from at) where
+module _ (image slots positions : List ℕ) (count : ℕ) (from : Place) (at : ℕ) (hd : HeaderOk image) (w : Walking image slots positions count from at) where
   pub walking-ends : at ≡ 0 → (Passed ≡ chainVerdict (walked image)) × Holds (chainOf image) count slots positions
   walking-ends z =
       let e : Met (take count slots) ≡ walked image = sym (walk-ends image (take count slots) from at z) ∙ w .onward in
@@ -170,11 +170,11 @@ unfolding walked
 chain-few image = omega (arith, walk-few (unmet (slotCount image) []) image [] Header (headSlot image), unmet-nil (slotCount image))
 
 -- a slot of 1 to N has its bytes in the image
-pub has-slot : (image : List ℕ) (slot : ℕ) → Headed image → 0 < slot → slot ≤ slotCount image → HasSlot image slot
+pub has-slot : (image : List ℕ) (slot : ℕ) → HeaderOk image → 0 < slot → slot ≤ slotCount image → HasSlot image slot
 has-slot image slot hd p q = (p, omega (arith, hd .sized))
 
 -- what the code holds at an index
-module _ (image : List ℕ) (count : ℕ) (slots positions : List ℕ) (hd : Headed image) (held : Holds (chainOf image) count slots positions) (i : ℕ) (l : i < count) where
+module _ (image : List ℕ) (count : ℕ) (slots positions : List ℕ) (hd : HeaderOk image) (held : Holds (chainOf image) count slots positions) (i : ℕ) (l : i < count) where
   pub slot-is : getD slots i 0 ≡ getD (chainOf image) i 0
   slot-is = sym (getD-take count slots i 0 l) ∙ ap (λ (x : List ℕ). getD x i 0) (held .listed)
 

@@ -9,7 +9,7 @@ use lib.Dec.{leb, eqb}
 use lib.ListN.{length}
 use Rattle.membership.specs.Membership.{within}
 use Rattle.image.specs.Image.{headerLength, mostSlots, version, slotCount, headerZero, imageLength}
-use Rattle.table.specs.Header.{headerCheck, Headed}
+use Rattle.table.specs.Header.{headerCheck, HeaderOk}
 use Rattle.table.specs.Walk.{walked}
 use Rattle.table.specs.Chain.{chainOf, chainVerdict, Holds}
 use Rattle.table.specs.Record.{recordsCheck}
@@ -25,9 +25,9 @@ use Rattle.membership.proofs.Logic.{by-test, and-left, and-right}
 use Rattle.table.proofs.Logic.{not-failed}
 
 -- what a header has that passed
-pub headed-by : (image : List ℕ) → headerCheck image ≡ Passed → Headed image
+pub header-ok-by : (image : List ℕ) → headerCheck image ≡ Passed → HeaderOk image
 unfolding headerCheck
-headed-by image e =
+header-ok-by image e =
     by-test (leb headerLength (length image))
     (λ a. by-test (eqb (version image) 1 && eqb (headerZero image) 0)
     (λ b. by-test (within 1 mostSlots (slotCount image))

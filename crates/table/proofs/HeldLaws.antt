@@ -11,7 +11,7 @@ use Rattle.table.specs.Chain.{chainOf}
 use Rattle.table.specs.Check.{Accepted}
 use Rattle.table.specs.Blocks.{blockIn, blocksOf, blockAt}
 use Rattle.table.proofs.ChainLaws.{slot-is, slot-has}
-use Rattle.table.proofs.AcceptedLaws.{accepted-headed, accepted-block, accepted-source}
+use Rattle.table.proofs.AcceptedLaws.{accepted-header-ok, accepted-block, accepted-source}
 
 -- one of the two wires of a slot
 abbrev pub IsWire : ℕ → Type 0
@@ -19,10 +19,10 @@ IsWire wire = (wire ≡ startWire) ⊎ (wire ≡ abortWire)
 
 module _ (image : List ℕ) (count : ℕ) (slots positions : List ℕ) (ok : Accepted image count slots positions) (i : ℕ) (l : i < count) where
   pub held-slot : getD slots i 0 ≡ getD (chainOf image) i 0
-  held-slot = slot-is image count slots positions (accepted-headed image count (ok .answer)) (ok .chain) i l
+  held-slot = slot-is image count slots positions (accepted-header-ok image count (ok .answer)) (ok .chain) i l
 
   pub held-has : HasSlot image (getD slots i 0)
-  held-has = slot-has image count slots positions (accepted-headed image count (ok .answer)) (ok .chain) i l
+  held-has = slot-has image count slots positions (accepted-header-ok image count (ok .answer)) (ok .chain) i l
 
   pub held-block : blockAt (blocksOf image) i ≡ blockIn image (chainOf image) (getD slots i 0)
   held-block = accepted-block image count (ok .answer) i l ∙ ap (λ (slot : ℕ). blockIn image (chainOf image) slot) (sym held-slot)
@@ -30,6 +30,6 @@ module _ (image : List ℕ) (count : ℕ) (slots positions : List ℕ) (ok : Acc
   -- the slot that a wire names
   pub held-source : (wire : ℕ) → IsWire wire → wireSlot image (getD slots i 0) wire ≤ mostSlots
   held-source wire w =
-      let few : slotCount image ≤ mostSlots = accepted-headed image count (ok .answer) .few in
+      let few : slotCount image ≤ mostSlots = accepted-header-ok image count (ok .answer) .few in
       let s : wireSlot image (getD (chainOf image) i 0) wire ≤ slotCount image = accepted-source image count (ok .answer) i l wire w in
       rw held-slot (omega arith)

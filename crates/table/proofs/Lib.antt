@@ -13,3 +13,4 @@ pub mod HeldLaws
 pub mod AnswerLaws
 pub mod SearchLaws
 pub mod LookupLaws
+pub mod Refusals

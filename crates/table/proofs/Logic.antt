@@ -3,7 +3,7 @@ use Prim.Native.Nat.{ℕ}
 use mathlib.Core.Path.{_≡_, refl}
 use mathlib.Core.Bool.{Bool, true, false}
 use native.Mathlib.Omega.{arith}
-use Rattle.table.specs.Place.{require, andThen}
+use Rattle.table.specs.Place.{require, thenCheck}
 use Rattle.table.specs.declared.place.Place.{Place}
 use Rattle.table.specs.declared.place.Verdict.{Verdict}
 use Rattle.table.specs.declared.place.Verdict.the-variants.{Passed, Failed}
@@ -22,10 +22,10 @@ require-below true number place below e = e
 require-below false number place below e = not-failed _ number place refl e
 
 -- groups of checks that pass: the first, and those below it
-pub group-passes : (v below : Verdict) → andThen v below ≡ Passed → v ≡ Passed
+pub group-passes : (v below : Verdict) → thenCheck v below ≡ Passed → v ≡ Passed
 group-passes Passed below e = refl
 group-passes (Failed number place) below e = e
 
-pub rest-passes : (v below : Verdict) → andThen v below ≡ Passed → below ≡ Passed
+pub rest-passes : (v below : Verdict) → thenCheck v below ≡ Passed → below ≡ Passed
 rest-passes Passed below e = e
 rest-passes (Failed number place) below e = not-failed _ number place refl e

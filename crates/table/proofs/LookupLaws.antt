@@ -1,6 +1,6 @@
 -- What find's answers mean, for whoever relies on them: the statements are in specs/Lookup.antt. A position is found exactly where the table is
 -- accepted, the tag is in form and the block there has its eight bytes; there is one such position at most; 51 is answered exactly where no
--- block has the tag.
+-- block has the tag; show hands back sixteen bytes that end with the tag.
 use Prim.Native.Nat.{ℕ, zero, suc, _+_, _-_, _≤_, _<_}
 use mathlib.Core.Path.{_≡_, refl, ap, sym, _∙_, subst}
 use mathlib.Core.List.{List, [], _∷_}
@@ -8,13 +8,31 @@ use mathlib.Core.Bool.{true}
 use native.Mathlib.Omega.{arith}
 use borrow.Author.Tests.{eqb-true, eqb-false}
 use lib.Dec.{eqb}
-use lib.ListN.{length, getD}
+use lib.ListN.{length, getD, take, drop, length-drop}
+use lib.Seq.{take-add, drop-at, drop-drop, length-take-le}
 use Rattle.table.specs.Place.{placeNumber}
-use Rattle.image.specs.Image.{slotCount, tagOf}
+use Rattle.image.specs.Image.{slotLength, slotCount, slotStart, slotBytes, tagPlace, tagLength, tagOf, HasSlot}
 use Rattle.table.specs.Tag.{tagForm, sameBytes}
 use Rattle.table.specs.Chain.{chainOf}
 use Rattle.table.specs.Check.{checkOf}
-use Rattle.table.specs.Lookup.{tagPosition, foundAt, tagChecks, afterTable, findOf, HasTag, FoundBlock, NoSuchTag, FoundMeans, FoundWhen, FoundOnce, NoTagMeans, NoTagWhen}
+use Rattle.table.specs.Lookup.{
+  tagPosition,
+  foundAt,
+  tagChecks,
+  afterTable,
+  findOf,
+  slotAt,
+  HasTag,
+  FoundBlock,
+  NoSuchTag,
+  FoundMeans,
+  FoundWhen,
+  FoundOnce,
+  NoTagMeans,
+  NoTagWhen,
+  ShownPart,
+  ShowsTag,
+}
 use Rattle.table.specs.Blocks.{blockIn, blocksOf, blockAt}
 use Rattle.table.specs.declared.place.Place.{Place}
 use Rattle.table.specs.declared.check.Checked.{Checked}
@@ -23,9 +41,9 @@ use Rattle.table.specs.declared.lookup.Found.{Found}
 use Rattle.table.specs.declared.lookup.Found.the-variants.{At, Refused}
 use Rattle.membership.proofs.Logic.{by-test, not-both}
 use Rattle.table.proofs.TagLaws.{same-equal, same-self}
-use Rattle.table.proofs.AcceptedLaws.{accepted-count, accepted-block, accepted-tags}
+use Rattle.table.proofs.AcceptedLaws.{accepted-count, accepted-has-slot, accepted-block, accepted-tags}
 use Rattle.table.proofs.AnswerLaws.{refusal-bounds}
-use Rattle.table.proofs.SearchLaws.{tag-at, tag-51, find-checks}
+use Rattle.table.proofs.SearchLaws.{tag-at, tag-51, find-checks, show-some}
 
 module _ (image tag : List ℕ) where
   -- a position that is found is not below the first
@@ -156,3 +174,22 @@ no-tag-when image tag f =
     (λ z. sym (tag-51 image tag (tagPosition image tag 1 (chainOf image)) (f .form) refl (eqb-true _ _ z) ∙ find-checks image tag n (f .answer)))
     (λ z. let m : (tagPosition image tag 1 (chainOf image) ≡ 0 → ⊥) = eqb-false _ _ z in
     absurd (f .none (tagPosition image tag 1 (chainOf image)) (searched image tag n (tagPosition image tag 1 (chainOf image)) (f .answer) (omega arith) refl)))
+
+-- the second half of a slot is its tag
+slot-tag : (image : List ℕ) (slot : ℕ) → HasSlot image slot → drop tagPlace (slotBytes image slot) ≡ tagOf image slot
+slot-tag image slot h =
+    let own = drop (slotStart slot) image in
+    ap (drop tagPlace) (take-add tagPlace tagLength own)
+    ∙ (drop-at (take tagPlace own) (take tagLength (drop tagPlace own)) tagPlace (length-take-le tagPlace own (rw length-drop (omega arith)))
+    ∙ ap (take tagLength) (drop-drop tagPlace (slotStart slot) image))
+
+pub shown-part : ShowsTag
+shown-part image tag p e =
+    let f = found-means image tag p e in
+    let n = f .blocks in
+    let slot = slotAt image p in
+    let i : p - 1 < n = omega (arith, f .has .first, f .has .last) in
+    let h : HasSlot image slot = accepted-has-slot image n (f .answer) (p - 1) i in
+    let l : length (slotBytes image slot) ≡ slotLength = length-take-le slotLength (drop (slotStart slot) image) (rw length-drop (omega arith)) in
+    let t : drop tagPlace (slotBytes image slot) ≡ tag = slot-tag image slot h ∙ (sym (block-tag image tag n (p - 1) (f .answer) i) ∙ f .has .same) in
+    subst (ShownPart tag) (show-some image tag p slot e refl) (record { sized = l; tagged = t })

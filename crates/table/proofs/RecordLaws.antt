@@ -11,9 +11,9 @@ use lib.ListN.{length, getD, take, drop, set, length-set}
 use lib.Seq.{drop-cons, drop-length, take-suc, getD-set-same, getD-set-other}
 use Rattle.words.specs.Word.{Bytes, number}
 use Rattle.membership.proofs.Logic.{by-test, not-both}
-use Rattle.table.specs.Place.{andThen}
+use Rattle.table.specs.Place.{thenCheck}
 use Rattle.image.specs.Image.{slotCount, tagOf, HasSlot}
-use Rattle.table.specs.Header.{Headed}
+use Rattle.table.specs.Header.{HeaderOk}
 use Rattle.table.specs.Tag.{sameBytes}
 use Rattle.table.specs.Chain.{chainOf}
 use Rattle.table.specs.Marks.{markPlace}
@@ -26,7 +26,7 @@ use Rattle.table.proofs.ChainLaws.{chain-in, has-slot}
 use Rattle.table.proofs.TagLaws.{same-number, tag-length, tag-bytes}
 
 -- two slots of the table have the same tag where its numbers are the same
-pub same-tags : (image : List ℕ) → Headed image → Bytes image → (x k : ℕ) → HasSlot image x → HasSlot image k
+pub same-tags : (image : List ℕ) → HeaderOk image → Bytes image → (x k : ℕ) → HasSlot image x → HasSlot image k
     → sameBytes (tagOf image x) (tagOf image k) ≡ eqb (number (tagOf image x)) (number (tagOf image k))
 same-tags image hd by x k hx hk =
     same-number (tagOf image x) (tagOf image k) (tag-length image x hx ∙ sym (tag-length image k hk)) (tag-bytes image x by) (tag-bytes image k by)
@@ -38,13 +38,14 @@ tag-among-snoc image tag (x ∷ ks) k =
     by-test (sameBytes (tagOf image x) tag) (λ e. simp e) (λ e. simp (e, tag-among-snoc image tag ks k))
 
 -- the first i + 1 slots of the chain, by the first i and slot i
-module _ (image : List ℕ) (hd : Headed image) (by : Bytes image) (slot at i : ℕ) (has : HasSlot image slot) (l : i < length (chainOf image))
+module _ (image : List ℕ) (hd : HeaderOk image) (by : Bytes image) (slot at i : ℕ) (has : HasSlot image slot) (l : i < length (chainOf image))
     (at-is : at ≡ getD (chainOf image) i 0) (at-has : HasSlot image at) where
   among-more : tagAmong image (tagOf image slot) (take (i + 1) (chainOf image))
       ≡ (tagAmong image (tagOf image slot) (take i (chainOf image)) || eqb (number (tagOf image at)) (number (tagOf image slot)))
   among-more =
       rw (add-one, take-suc (chainOf image) i 0 l, ← at-is)
-      (tag-among-snoc image (tagOf image slot) (take i (chainOf image)) at ∙ ap (λ (b : Bool). tagAmong image (tagOf image slot) (take i (chainOf image)) || b) (same-tags image hd by at slot at-has has))
+      (tag-among-snoc image (tagOf image slot) (take i (chainOf image)) at
+      ∙ ap (λ (b : Bool). tagAmong image (tagOf image slot) (take i (chainOf image)) || b) (same-tags image hd by at slot at-has has))
 
   pub among-hit : number (tagOf image at) ≡ number (tagOf image slot) → true ≡ tagAmong image (tagOf image slot) (take (i + 1) (chainOf image))
   among-hit e = sym (among-more ∙ by-test (tagAmong image (tagOf image slot) (take i (chainOf image))) (λ m. simp m) (λ m. simp (m, eq-eqb _ _ e)))
@@ -83,7 +84,7 @@ marked-more image marks [] p l h = tt
 marked-more image marks (k ∷ ks) p l h = (mark-kept marks p (markOf image k) l (h .0), marked-more image marks ks p l (h .1))
 
 -- a tag without a mark in its place is none of theirs
-unmarked : (image marks : List ℕ) → Headed image → Bytes image → (k : ℕ) → HasSlot image k → (ks : List ℕ) → AllIn (slotCount image) ks
+unmarked : (image marks : List ℕ) → HeaderOk image → Bytes image → (k : ℕ) → HasSlot image k → (ks : List ℕ) → AllIn (slotCount image) ks
     → Marked image marks ks → getD marks (markOf image k) 0 ≡ 0 → tagAmong image (tagOf image k) ks ≡ false
 unfolding tagAmong Marked
 unmarked image marks hd by k hk [] h m z = refl
@@ -99,7 +100,7 @@ unmarked image marks hd by k hk (x ∷ ks) h m z =
 -- the record at an index, and those after it
 record-at : (image chain xs : List ℕ) (i : ℕ) → i < length xs
     → recordsFrom image chain (take i xs) (drop i xs)
-    ≡ andThen (recordCheck image chain (tagAmong image (tagOf image (getD xs i 0)) (take i xs)) (getD xs i 0))
+    ≡ thenCheck (recordCheck image chain (tagAmong image (tagOf image (getD xs i 0)) (take i xs)) (getD xs i 0))
     (recordsFrom image chain (take (i + 1) xs) (drop (i + 1) xs))
 unfolding recordsFrom
 record-at image chain xs i h = rw (add-one, drop-cons xs i 0 h, take-suc xs i 0 h)
@@ -123,7 +124,7 @@ recording-end image marks i r l =
     sym o ∙ r .onward
 
 -- one turn: the slot, the place of its mark, whether its tag is repeated, and the verdict, as the code has them
-module _ (image marks : List ℕ) (i : ℕ) (hd : Headed image) (by : Bytes image) (r : Recording image marks i) (l : i < length (chainOf image))
+module _ (image marks : List ℕ) (i : ℕ) (hd : HeaderOk image) (by : Bytes image) (r : Recording image marks i) (l : i < length (chainOf image))
     (slot place : ℕ) (slot-is : slot ≡ getD (chainOf image) i 0) (place-is : place ≡ markOf image slot) where
   pub not-marked : HasSlot image slot → getD marks place 0 ≡ 0 → tagAmong image (tagOf image slot) (take i (chainOf image)) ≡ false
   not-marked has z =
@@ -142,10 +143,11 @@ module _ (image marks : List ℕ) (i : ℕ) (hd : Headed image) (by : Bytes imag
     pub recording-on : place < 128 → v ≡ Passed → Recording image (set marks place 1) (i + 1)
     recording-on f e =
         let w : place < length marks = omega (arith, r .sized) in
+        let earlier = take i (chainOf image) in
         let own : getD (set marks place 1) (markOf image slot) 0 ≡ 1 = rw (← place-is) (getD-set-same marks place 1 0 w) in
         record {
           within = omega arith;
           sized = simp length-set (r .sized);
-          marked = rw (add-one, take-suc (chainOf image) i 0 l, ← slot-is) (marked-snoc image (set marks place 1) (take i (chainOf image)) slot (marked-more image marks (take i (chainOf image)) place w (r .marked)) own);
+          marked = rw (add-one, take-suc (chainOf image) i 0 l, ← slot-is) (marked-snoc image (set marks place 1) earlier slot (marked-more image marks earlier place w (r .marked)) own);
           onward = sym (record-at image (chainOf image) (chainOf image) i l ∙ rw (sym record-is ∙ e)) ∙ r .onward;
         }

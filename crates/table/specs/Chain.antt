@@ -32,7 +32,7 @@ abbrev pub positionOf : ℕ → List ℕ → ℕ
 positionOf slot chain = positionFrom 1 slot chain
 
 -- What the code holds of a chain: the position of each slot,
-pub record Placed (chain positions : List ℕ) : Type 0 where
+pub record HoldsPositions (chain positions : List ℕ) : Type 0 where
   pub sized : length positions ≡ mostSlots + 1
   pub placed : (slot : ℕ) → getD positions slot 0 ≡ positionOf slot chain
 
@@ -41,4 +41,4 @@ pub record Holds (chain : List ℕ) (count : ℕ) (slots positions : List ℕ) :
   pub listed : take count slots ≡ chain
   pub counted : length chain ≡ count
   pub few : count ≤ mostSlots
-  pub places : Placed chain positions
+  pub places : HoldsPositions chain positions

@@ -3,7 +3,7 @@ use Prim.Native.Nat.{ℕ}
 use mathlib.Core.Path.{_≡_}
 use mathlib.Core.List.{List}
 use lib.ListN.{length}
-use Rattle.table.specs.Place.{placeNumber, Answer, value, refusal, andThen}
+use Rattle.table.specs.Place.{placeNumber, Answer, value, refusal, thenCheck}
 use Rattle.table.specs.Header.{headerCheck}
 use Rattle.table.specs.Walk.{walked}
 use Rattle.table.specs.Chain.{chainVerdict, chainOf, Holds}
@@ -17,9 +17,9 @@ use Rattle.table.specs.declared.check.Checked.the-variants.{Blocks, Refu
 -- the groups in order
 unfoldable pub verdictOf : List ℕ → Verdict
 verdictOf image =
-    andThen (headerCheck image)
-    (andThen (chainVerdict (walked image))
-    (andThen (recordsCheck image)
+    thenCheck (headerCheck image)
+    (thenCheck (chainVerdict (walked image))
+    (thenCheck (recordsCheck image)
     (sparesCheck image)))
 
 -- "An accepted table check, and a fresh state made, answer the number of blocks."

@@ -22,7 +22,7 @@ headerCheck image =
     Passed)))
 
 -- what an image has whose header passed
-pub record Headed (image : List ℕ) : Type 0 where
+pub record HeaderOk (image : List ℕ) : Type 0 where
   pub some : 0 < slotCount image
   pub few : slotCount image ≤ mostSlots
   pub sized : length image ≡ imageLength (slotCount image)

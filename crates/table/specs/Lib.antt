@@ -10,3 +10,4 @@ pub mod Check
 pub mod Lookup
 pub mod Blocks
 pub mod Accepted
+pub mod Refusals

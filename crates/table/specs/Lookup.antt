@@ -3,9 +3,9 @@ use Prim.Native.Nat.{ℕ, zero, suc, _-_, _≤_, _<_}
 use mathlib.Core.Path.{_≡_}
 use mathlib.Core.List.{List, [], _∷_}
 use mathlib.Core.Bool.{true, cond}
-use lib.ListN.{getD}
+use lib.ListN.{length, getD, drop}
 use Rattle.table.specs.Place.{placeNumber, Answer, value, refusal}
-use Rattle.image.specs.Image.{slotBytes, tagOf, HasSlot}
+use Rattle.image.specs.Image.{slotLength, slotBytes, tagPlace, tagOf, HasSlot}
 use Rattle.table.specs.Tag.{tagForm, sameBytes}
 use Rattle.table.specs.Chain.{chainOf}
 use Rattle.table.specs.Check.{checkOf}
@@ -98,3 +98,12 @@ NoTagMeans = (image tag : List ℕ) → findOf image tag ≡ Refused 51 Header �
 
 abbrev pub NoTagWhen : Type 0
 NoTagWhen = (image tag : List ℕ) → NoSuchTag image tag → findOf image tag ≡ Refused 51 Header
+
+-- what show hands back of a slot: sixteen bytes, of which 8 to 15 are the tag
+pub record ShownPart (tag part : List ℕ) : Type 0 where
+  pub sized : length part ≡ slotLength
+  pub tagged : drop tagPlace part ≡ tag
+
+-- theorem shown-part: where find answers a position, show hands back such a part
+abbrev pub ShowsTag : Type 0
+ShowsTag = (image tag : List ℕ) (p : ℕ) → findOf image tag ≡ At p → ShownPart tag (showOf image tag)

@@ -23,6 +23,6 @@ require true number place below = below
 require false number place below = Failed number place
 
 -- a group of checks, and those below it
-abbrev pub andThen : Verdict → Verdict → Verdict
-andThen Passed below = below
-andThen (Failed number place) below = Failed number place
+abbrev pub thenCheck : Verdict → Verdict → Verdict
+thenCheck Passed below = below
+thenCheck (Failed number place) below = Failed number place

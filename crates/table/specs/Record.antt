@@ -5,7 +5,7 @@ use mathlib.Core.Bool.{Bool, false, cond, not, _&&_, _||_}
 use lib.Dec.{ltb, eqb}
 use Rattle.kind.specs.Kind.{isKind, hasAbort}
 use Rattle.membership.specs.Membership.{among}
-use Rattle.table.specs.Place.{require, andThen}
+use Rattle.table.specs.Place.{require, thenCheck}
 use Rattle.image.specs.Image.{zeroPlace, slotByte, kindOf, wireSlot, wireCode, startWire, abortWire, tagOf}
 use Rattle.table.specs.Tag.{tagForm, sameBytes}
 use Rattle.table.specs.Chain.{chainOf}
@@ -54,7 +54,7 @@ recordCheck image chain repeated slot =
 unfoldable pub recordsFrom : List ℕ → List ℕ → List ℕ → List ℕ → Verdict
 recordsFrom image chain earlier [] = Passed
 recordsFrom image chain earlier (slot ∷ rest) =
-    andThen (recordCheck image chain (tagAmong image (tagOf image slot) earlier) slot)
+    thenCheck (recordCheck image chain (tagAmong image (tagOf image slot) earlier) slot)
     (recordsFrom image chain (earlier ++ (slot ∷ [])) rest)
 
 unfoldable pub recordsCheck : List ℕ → Verdict

@@ -2,7 +2,7 @@
 ghost use mathlib.Core.Path.{_≡_};
 ghost use Prim.Native.Nat.{_+_, _<_, _≤_};
 ghost use Rattle.image.specs.Image.{mostSlots, slotLength, wireSlot, wireCode, HasSlot};
-ghost use Rattle.table.specs.Chain.{chainOf, Placed};
+ghost use Rattle.table.specs.Chain.{chainOf, HoldsPositions};
 ghost use Rattle.table.specs.Check.{Accepted};
 ghost use Rattle.table.specs.Blocks.{wireOf, blocksOf, blockAt, wiringAt};
 use image::ABORT_WIRE;
@@ -30,7 +30,7 @@ fn wire_at(image: &[u8], positions: &[u8; MOST_SLOTS + 1], slot: u8, wire: usize
     requires { ⌜ HasSlot (now image) slot ⌝ }
     requires { ⌜ wire + 1 < slotLength ⌝ }
     requires { ⌜ wireSlot (now image) slot wire ≤ mostSlots ⌝ }
-    requires { ⌜ Placed (chainOf (now image)) (now positions) ⌝ }
+    requires { ⌜ HoldsPositions (chainOf (now image)) (now positions) ⌝ }
     ensures { λ r. ⌜ r ≡ wireOf (chainOf (now (image .entry))) (wireSlot (now (image .entry)) slot wire) (wireCode (now (image .entry)) slot wire) ⌝ }
 {
     let source = slot_byte(image, slot, wire);

@@ -6,9 +6,9 @@ ghost use lib.Dec.{eqb};
 ghost use lib.ListN.{length, getD};
 ghost use Prim.Native.Nat.{_+_};
 ghost use Rattle.image.specs.Image.{mostSlots};
-ghost use Rattle.table.specs.Header.{Headed};
+ghost use Rattle.table.specs.Header.{HeaderOk};
 ghost use Rattle.table.specs.Walk.{walked};
-ghost use Rattle.table.specs.Chain.{chainOf, chainVerdict, Placed, Holds};
+ghost use Rattle.table.specs.Chain.{chainOf, chainVerdict, HoldsPositions, Holds};
 use crate::place::Place;
 use crate::place::Verdict;
 use image::MOST_SLOTS;
@@ -27,9 +27,10 @@ pub fn walk(
     slots: &mut [u8; MOST_SLOTS],
     positions: &mut [u8; MOST_SLOTS + 1],
 ) -> ChainWalk
-    requires { ⌜ Headed (now image) ⌝ }
-    requires { ⌜ (length (now slots) ≡ mostSlots) × Placed [] (now positions) ⌝ }
-    ensures { λ r. ⌜ (r .verdict ≡ chainVerdict (walked (now (image .entry)))) × (r .verdict ≡ Verdict.Passed → Holds (chainOf (now (image .entry))) (r .count) (now (slots .exit)) (now (positions .exit))) ⌝ }
+    requires { ⌜ HeaderOk (now image) ⌝ }
+    requires { ⌜ (length (now slots) ≡ mostSlots) × HoldsPositions [] (now positions) ⌝ }
+    ensures { λ r. ⌜ r .verdict ≡ chainVerdict (walked (now (image .entry))) ⌝ }
+    ensures { λ r. ⌜ (r .verdict ≡ Verdict.Passed → Holds (chainOf (now (image .entry))) (r .count) (now (slots .exit)) (now (positions .exit))) ⌝ }
 {
     let mut count: usize = 0;
     let mut from = Place::Header;

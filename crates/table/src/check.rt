@@ -4,7 +4,7 @@ ghost use mathlib.Core.List.{[]};
 ghost use Prim.Native.Nat.{ℕ};
 ghost use lib.ListN.{length};
 ghost use Rattle.image.specs.Image.{mostSlots};
-ghost use Rattle.table.specs.Chain.{Placed};
+ghost use Rattle.table.specs.Chain.{HoldsPositions};
 ghost use Rattle.table.specs.Check.{checkedAs, checkOf, checkedAnswer, Accepted};
 use crate::chain::walk;
 use crate::header::check_header;
@@ -36,7 +36,7 @@ pub fn check_table(
     slots: &mut [u8; MOST_SLOTS],
     positions: &mut [u8; MOST_SLOTS + 1],
 ) -> Checked
-    requires { ⌜ (length (now slots) ≡ mostSlots) × Placed [] (now positions) ⌝ }
+    requires { ⌜ (length (now slots) ≡ mostSlots) × HoldsPositions [] (now positions) ⌝ }
     ensures { λ r. ⌜ (r ≡ checkOf (now (image .entry))) × ((n : ℕ) → r ≡ Checked.Blocks n → Accepted (now (image .entry)) n (now (slots .exit)) (now (positions .exit))) ⌝ }
 {
     let header = check_header(image);

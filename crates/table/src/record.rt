@@ -4,8 +4,8 @@ ghost use Prim.Native.Nat.{_+_, _<_, _≤_};
 ghost use lib.ListN.{take};
 ghost use mathlib.Core.Bool.{false};
 ghost use Rattle.image.specs.Image.{slotLength, wireSlot, wireCode, tagOf, HasSlot};
-ghost use Rattle.table.specs.Header.{Headed};
-ghost use Rattle.table.specs.Chain.{chainOf, Placed, Holds};
+ghost use Rattle.table.specs.Header.{HeaderOk};
+ghost use Rattle.table.specs.Chain.{chainOf, HoldsPositions, Holds};
 ghost use Rattle.table.specs.Record.{kindOk, wireOk, abortOk, tagAmong, recordCheck, recordsCheck};
 ghost use Rattle.table.specs.Marks.{markPlace};
 use crate::chain::on_chain;
@@ -35,7 +35,7 @@ fn kind_ok(image: &[u8], slot: u8) -> bool
 fn wire_ok(image: &[u8], positions: &[u8; MOST_SLOTS + 1], slot: u8, wire: usize) -> bool
     requires { ⌜ HasSlot (now image) slot ⌝ }
     requires { ⌜ wire + 1 < slotLength ⌝ }
-    requires { ⌜ Placed (chainOf (now image)) (now positions) ⌝ }
+    requires { ⌜ HoldsPositions (chainOf (now image)) (now positions) ⌝ }
     ensures { λ r. ⌜ r ≡ wireOk (chainOf (now (image .entry))) (wireSlot (now (image .entry)) slot wire) (wireCode (now (image .entry)) slot wire) ⌝ }
 {
     let source = slot_byte(image, slot, wire);
@@ -49,7 +49,7 @@ fn wire_ok(image: &[u8], positions: &[u8; MOST_SLOTS + 1], slot: u8, wire: usize
 // An abort wire as it should be, and none on a kind without abort.
 fn abort_ok(image: &[u8], positions: &[u8; MOST_SLOTS + 1], slot: u8) -> bool
     requires { ⌜ HasSlot (now image) slot ⌝ }
-    requires { ⌜ Placed (chainOf (now image)) (now positions) ⌝ }
+    requires { ⌜ HoldsPositions (chainOf (now image)) (now positions) ⌝ }
     ensures { λ r. ⌜ r ≡ abortOk (now (image .entry)) (chainOf (now (image .entry))) slot ⌝ }
 {
     if kind::has_abort(slot_byte(image, slot, KIND)) {
@@ -61,7 +61,7 @@ fn abort_ok(image: &[u8], positions: &[u8; MOST_SLOTS + 1], slot: u8) -> bool
 // Checks 7 to 10 of one record; `repeated`: its tag is that of an earlier block.
 fn check_record(image: &[u8], positions: &[u8; MOST_SLOTS + 1], repeated: bool, slot: u8) -> Verdict
     requires { ⌜ HasSlot (now image) slot ⌝ }
-    requires { ⌜ Placed (chainOf (now image)) (now positions) ⌝ }
+    requires { ⌜ HoldsPositions (chainOf (now image)) (now positions) ⌝ }
     ensures { λ r. ⌜ r ≡ recordCheck (now (image .entry)) (chainOf (now (image .entry))) repeated slot ⌝ }
 {
     if !kind_ok(image, slot) {
@@ -100,7 +100,7 @@ fn is_among(
     n: usize,
     slot: u8,
 ) -> bool
-    requires { ⌜ Headed (now image) × HasSlot (now image) slot × (n ≤ count) ⌝ }
+    requires { ⌜ HeaderOk (now image) × HasSlot (now image) slot × (n ≤ count) ⌝ }
     requires { ⌜ Holds (chainOf (now image)) count (now slots) (now positions) ⌝ }
     ensures { λ r. ⌜ r ≡ tagAmong (now (image .entry)) (tagOf (now (image .entry)) slot) (take n (chainOf (now (image .entry)))) ⌝ }
 {
@@ -126,7 +126,7 @@ fn is_repeated(
     slot: u8,
     mark: u8,
 ) -> bool
-    requires { ⌜ Headed (now image) × HasSlot (now image) slot × (n ≤ count) ⌝ }
+    requires { ⌜ HeaderOk (now image) × HasSlot (now image) slot × (n ≤ count) ⌝ }
     requires { ⌜ Holds (chainOf (now image)) count (now slots) (now positions) ⌝ }
     requires { ⌜ (mark ≡ 0 → tagAmong (now image) (tagOf (now image) slot) (take n (chainOf (now image))) ≡ false) ⌝ }
     ensures { λ r. ⌜ r ≡ tagAmong (now (image .entry)) (tagOf (now (image .entry)) slot) (take n (chainOf (now (image .entry)))) ⌝ }
@@ -144,7 +144,7 @@ pub fn check_records(
     positions: &[u8; MOST_SLOTS + 1],
     count: usize,
 ) -> Verdict
-    requires { ⌜ Headed (now image) ⌝ }
+    requires { ⌜ HeaderOk (now image) ⌝ }
     requires { ⌜ Holds (chainOf (now image)) count (now slots) (now positions) ⌝ }
     ensures { λ r. ⌜ r ≡ recordsCheck (now (image .entry)) ⌝ }
 {

@@ -1,8 +1,8 @@
 // Check 11: the slots off the chain.
 ghost use mathlib.Core.Path.{_≡_};
 ghost use Rattle.image.specs.Image.{slotBytes, HasSlot};
-ghost use Rattle.table.specs.Header.{Headed};
-ghost use Rattle.table.specs.Chain.{chainOf, Placed};
+ghost use Rattle.table.specs.Header.{HeaderOk};
+ghost use Rattle.table.specs.Chain.{chainOf, HoldsPositions};
 ghost use Rattle.table.specs.Spare.{allZero, spareOk, sparesCheck};
 use crate::chain::on_chain;
 use crate::place::Place;
@@ -24,7 +24,7 @@ fn slot_zero(image: &[u8], slot: u8) -> bool
 // A slot on the chain, or sixteen zeros.
 fn spare_ok(image: &[u8], positions: &[u8; MOST_SLOTS + 1], slot: u8) -> bool
     requires { ⌜ HasSlot (now image) slot ⌝ }
-    requires { ⌜ Placed (chainOf (now image)) (now positions) ⌝ }
+    requires { ⌜ HoldsPositions (chainOf (now image)) (now positions) ⌝ }
     ensures { λ r. ⌜ r ≡ spareOk (now (image .entry)) (chainOf (now (image .entry))) slot ⌝ }
 {
     if on_chain(positions, slot) {
@@ -35,8 +35,8 @@ fn spare_ok(image: &[u8], positions: &[u8; MOST_SLOTS + 1], slot: u8) -> bool
 
 // The slots from the lowest on.
 pub fn check_spares(image: &[u8], positions: &[u8; MOST_SLOTS + 1]) -> Verdict
-    requires { ⌜ Headed (now image) ⌝ }
-    requires { ⌜ Placed (chainOf (now image)) (now positions) ⌝ }
+    requires { ⌜ HeaderOk (now image) ⌝ }
+    requires { ⌜ HoldsPositions (chainOf (now image)) (now positions) ⌝ }
     ensures { λ r. ⌜ r ≡ sparesCheck (now (image .entry)) ⌝ }
 {
     let n = image[SLOT_COUNT];

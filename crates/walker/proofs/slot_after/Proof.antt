@@ -61,7 +61,8 @@ module _ {M : Type 1} (𝓤 : URA M) (H : Heap 𝓤) (A : Atoms 𝓤) (mem : Mem
   abbrev Next : Contract 𝓤
   Next = tripleOf 𝓤 H A next.signature (next.spec 𝓤 H A mem run)
 
-module _ {M : Type 1} (𝓤 : URA M) (H : Heap 𝓤) (A : Atoms 𝓤) (W : Given 𝓤 H A) (mem : Memory → SProp 𝓤) (run : Routine → Fun 𝓤) (κ : Lft) (q : Share) (s : RefT (List ℕ)) (n : ℕ) (ok : n < 2 ^ 8) (within : Reaches (now s) n) where
+module _ {M : Type 1} (𝓤 : URA M) (H : Heap 𝓤) (A : Atoms 𝓤) (W : Given 𝓤 H A) (mem : Memory → SProp 𝓤) (run : Routine → Fun 𝓤) (κ : Lft) (q : Share)
+    (s : RefT (List ℕ)) (n : ℕ) (ok : n < 2 ^ 8) (within : Reaches (now s) n) where
   abbrev α : NamedLft
   α = namedLft 1 0 tt (κ, tt)
 
@@ -107,18 +108,23 @@ module _ {M : Type 1} (𝓤 : URA M) (H : Heap 𝓤) (A : Atoms 𝓤) (W : Given
   exits : (r : ℕ) (u : Val) → r ≡ found → ent 𝓤 (⋆ 𝓤 H A (‵ (u8 .own r (u ∷ [])) ∷ (‵ (flft κ q) ⊛ ‵ ftrue) ∷ ‵ Own ∷ [])) (Post u)
   exits r u e =
       qed W (‵ (u8 .own r (u ∷ [])) ∷ (‵ (flft κ q) ⊛ ‵ ftrue) ∷ ‵ Own ∷ []) ∵
-      suffices ! _ (ends-at 𝓤 H A slot-after.ended stayed (slot-after.clauses 𝓤 H A mem run) W (((κ, tt), (q, tt), tt, (s, (n, tt)), at), tt) u r (tt, (tt, tt)) (tt, (tt, tt))) $ says ! e $
+      suffices ! _ (ends-at 𝓤 H A slot-after.ended stayed (slot-after.clauses 𝓤 H A mem run) W (((κ, tt), (q, tt), tt, (s, (n, tt)), at), tt) u r (tt, (tt, tt))
+      (tt, (tt, tt))) $ says ! e $
       move ! (1 ∷ []) $ frame ! $ nothing ! $ owned ! u8 (Is u8) (uint-makes 𝓤 H A W w8) n _ (refl, ok) $ fjoin ! $ move ! (2 ∷ 0 ∷ []) $ fjoin ! $ frame ! $ done !
 
   module _ (C : Calls 𝓤 H) (Λ : Loops 𝓤 H) (fm : FmC 𝓤 H (W .laws) C) (known : Triple 𝓤 (C #walker·next) (Next 𝓤 H A mem run)) where
-    walk : Is (ShrSlice (named 0) κ u8) s (v ∷ []) → ent 𝓤 (onEntry 𝓤 H A slot-after.signature (κ, tt) (q, tt) (s, (n, tt)) at) (WpFn 𝓤 H C Λ code.function (v ∷ vint w8 n ∷ []) Post)
+    walk : Is (ShrSlice (named 0) κ u8) s (v ∷ []) → ent 𝓤 (onEntry 𝓤 H A slot-after.signature (κ, tt) (q, tt) (s, (n, tt)) at)
+        (WpFn 𝓤 H C Λ code.function (v ∷ vint w8 n ∷ []) Post)
     walk p =
         qed W (raw (onEntry 𝓤 H A slot-after.signature (κ, tt) (q, tt) (s, (n, tt)) at) ∷ []) ∵ enter ! C Λ code.function (v ∷ vint w8 n ∷ []) _ $
-        alloc1 ! (λ l₀. alloc1 ! (λ l₁. alloc1 ! (λ l₂. alloc1 ! (λ l₃. alloc0 ! $ params1 ! $ pass1 ! (init ! 4 refl (shr-slice-lawful 𝓤 H A W (named 0) κ u8 .typed s (v ∷ []) p .0)) $ pass1 ! (init ! 2 refl (tt, record { fits = ok })) $ pass0 ! $
-        assigns ! (agg ! (and-then ! (load ! (from ! (stop !)) (look ! 4 refl)) (and-then ! (load ! (from ! (stop !)) (look ! 2 refl)) (no-more !)))) (from ! (stop !)) (init ! 0 refl (tt, (shr-slice-lawful 𝓤 H A W (named 0) κ u8 .typed s (v ∷ []) p .0 .1, (record { fits = ok }, tt)))) $
+        alloc1 ! (λ l₀. alloc1 ! (λ l₁. alloc1 ! (λ l₂. alloc1 ! (λ l₃. alloc0 ! $ params1 ! $
+        pass1 ! (init ! 4 refl (shr-slice-lawful 𝓤 H A W (named 0) κ u8 .typed s (v ∷ []) p .0)) $ pass1 ! (init ! 2 refl (tt, record { fits = ok })) $ pass0 ! $
+        assigns ! (agg ! (and-then ! (load ! (from ! (stop !)) (look ! 4 refl)) (and-then ! (load ! (from ! (stop !)) (look ! 2 refl)) (no-more !)))) (from ! (stop !))
+        (init ! 0 refl (tt, (shr-slice-lawful 𝓤 H A W (named 0) κ u8 .typed s (v ∷ []) p .0 .1, (record { fits = ok }, tt)))) $
         move ! (8 ∷ []) $ use1 W (raw (Next 𝓤 H A mem run .pre to) ⊛ ‵ Own) goes $ split ! $
         calls-at ! fm (Next 𝓤 H A mem run) known to (and-then ! (load ! (from ! (stop !)) (look ! 2 refl)) (no-more !)) (λ u.
-        use1 W (later (some (λ (r : ℕ). ((‵ (flft κ q) ⊛ ‵ ftrue) ⊛ ‵ (u8 .own r (u ∷ []))) ⊛ raw (ensured 𝓤 H A next.ended (next.clauses 𝓤 H A mem run) (κ, tt) (d, tt) tt r)))) (id⊢ 𝓤 _) $ await ! tt $ pick ! (λ r.
+        use1 W (later (some (λ (r : ℕ). ((‵ (flft κ q) ⊛ ‵ ftrue) ⊛ ‵ (u8 .own r (u ∷ []))) ⊛ raw (ensured 𝓤 H A next.ended (next.clauses 𝓤 H A mem run) (κ, tt)
+        (d, tt) tt r)))) (id⊢ 𝓤 _) $ await ! tt $ pick ! (λ r.
         split ! $ move ! (1 ∷ []) $ use1 W (raw (fact 𝓤 (r ≡ found))) (said r) $ heard ! (r ≡ found) (λ e. split ! $ move ! (1 ∷ []) $
         -- [the result; the token; what s owns; _3; …; _2; …; _1; …; room for _0; …]
         peeks ! u8 (Is u8) (shows 𝓤 H A u8) r (u ∷ []) (λ is.
@@ -129,13 +135,18 @@ module _ {M : Type 1} (𝓤 : URA M) (H : Heap 𝓤) (A : Atoms 𝓤) (W : Given
 module _ {M : Type 1} (𝓤 : URA M) (H : Heap 𝓤) (A : Atoms 𝓤) (W : Given 𝓤 H A) (mem : Memory → SProp 𝓤) (run : Routine → Fun 𝓤) where
   slot-after-walks : (C : Calls 𝓤 H) (Λ : Loops 𝓤 H) → FmC 𝓤 H (W .laws) C → Triple 𝓤 (C #walker·next) (Next 𝓤 H A mem run)
       → Walks 𝓤 H A slot-after.ended stayed (WpFn 𝓤 H C Λ code.function) (slot-after.clauses 𝓤 H A mem run)
-  slot-after-walks C Λ fm known = walked 𝓤 H A slot-after.ended stayed (slot-after.clauses 𝓤 H A mem run) (WpFn 𝓤 H C Λ code.function) (λ κs. (slice-vals, (uint-vals w8, tt))) (λ κs. (shr-slice-tells (named 0) (κs .0) u8, (uint-tells w8, tt)))
+  slot-after-walks C Λ fm known = walked 𝓤 H A slot-after.ended stayed (slot-after.clauses 𝓤 H A mem run) (WpFn 𝓤 H C Λ code.function)
+      (λ κs. (slice-vals, (uint-vals w8, tt))) (λ κs. (shr-slice-tells (named 0) (κs .0) u8, (uint-tells w8, tt)))
       (λ κs qs bounds a g are. needs 𝓤 _ _ (λ within. walk 𝓤 H A W mem run (κs .0) (qs .0) (a .0) (a .1 .0) (are .1 .0 .1) within C Λ fm known (are .0)))
 
 slot-after-meets : {M : Type 1} (𝓤 : URA M) (H : Heap 𝓤) (A : Atoms 𝓤) (W : Given 𝓤 H A) (mem : Memory → SProp 𝓤) (run : Routine → Fun 𝓤) (𝓣 : Tables 𝓤 H)
     → Triple 𝓤 (𝓣 .C #walker·next) (Next 𝓤 H A mem run)
     → Meets 𝓤 H A slot-after.signature (WpFn 𝓤 H (𝓣 .C) (𝓣 .Λ) code.function) (slot-after.spec 𝓤 H A mem run)
-slot-after-meets 𝓤 H A W mem run 𝓣 known = walk-meets 𝓤 H A slot-after.ended stayed W (goes-none-slice 𝓤 H A W 1 (0 ∷ []) tt (plain (λ _. u8)) yes, (goes-none 𝓤 H A W 1 (λ _. u8) yes (λ κs x f. refl), tt)) (slot-after.clauses 𝓤 H A mem run) (WpFn 𝓤 H (𝓣 .C) (𝓣 .Λ) code.function) (WpFn-mono 𝓤 H (W .laws) 𝓣 code.function)
+slot-after-meets 𝓤 H A W mem run 𝓣 known =
+    walk-meets 𝓤 H A slot-after.ended stayed W
+    (goes-none-slice 𝓤 H A W 1 (0 ∷ []) tt (plain (λ _. u8)) yes, (goes-none 𝓤 H A W 1 (λ _. u8) yes (λ κs x f. refl), tt))
+    (slot-after.clauses 𝓤 H A mem run) (WpFn 𝓤 H (𝓣 .C) (𝓣 .Λ) code.function)
+    (WpFn-mono 𝓤 H (W .laws) 𝓣 code.function)
     (slot-after-walks 𝓤 H A W mem run (𝓣 .C) (𝓣 .Λ) (fmOf 𝓤 H (W .laws) 𝓣) known)
 
 pub slot-after-spec : {M : Type 1} → stated.statement M

@@ -11,14 +11,17 @@ element-copy-out-slot-byte c = omega (arith, c .before .pre .0 .chain .few)
 
 slot-byte-requires : tie.Need-slot-byte-requires
 slot-byte-requires c κs =
-    let a = c .before .before .args in
-    (held-has (a .image .now) (a .count) (a .slots .now) (a .positions .now) (c .before .before .pre .0) (a .i) (c .before .before .pre .1), omega arith)
+    let s = c .before .before in
+    let a = s .args in
+    (held-has (a .image .now) (a .count) (a .slots .now) (a .positions .now) (s .pre .0) (a .i) (s .pre .1), omega arith)
 
 returns : tie.Need-returns
 unfolding blockIn
 returns c =
-    let a = c .before .before .before .args in
-    c .slot-byte .ensures ∙ ap (λ (b : Block). b .kind) (sym (held-block (a .image .now) (a .count) (a .slots .now) (a .positions .now) (c .before .before .before .pre .0) (a .i) (c .before .before .before .pre .1)))
+    let s = c .before .before .before in
+    let a = s .args in
+    let b = held-block (a .image .now) (a .count) (a .slots .now) (a .positions .now) (s .pre .0) (a .i) (s .pre .1) in
+    c .slot-byte .ensures ∙ ap (λ (b : Block). b .kind) (sym b)
 
 pub kind-at-spec : {M : Type 1} → statement M
 kind-at-spec = tie.close (tie.spec element-copy-out-slot-byte slot-byte-requires returns)

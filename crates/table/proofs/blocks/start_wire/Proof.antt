@@ -13,16 +13,19 @@ element-copy-out-wire-at c = omega (arith, c .before .pre .0 .chain .few)
 
 wire-at-requires : tie.Need-wire-at-requires
 wire-at-requires c κs =
-    let a = c .before .before .args in
-    let has = held-has (a .image .now) (a .count) (a .slots .now) (a .positions .now) (c .before .before .pre .0) (a .i) (c .before .before .pre .1) in
-    let source = held-source (a .image .now) (a .count) (a .slots .now) (a .positions .now) (c .before .before .pre .0) (a .i) (c .before .before .pre .1) startWire (inl refl) in
-    (has, (omega arith, (source, c .before .before .pre .0 .chain .places)))
+    let s = c .before .before in
+    let a = s .args in
+    let has = held-has (a .image .now) (a .count) (a .slots .now) (a .positions .now) (s .pre .0) (a .i) (s .pre .1) in
+    let source = held-source (a .image .now) (a .count) (a .slots .now) (a .positions .now) (s .pre .0) (a .i) (s .pre .1) startWire (inl refl) in
+    (has, (omega arith, (source, s .pre .0 .chain .places)))
 
 returns : tie.Need-returns
 unfolding blockIn
 returns c =
-    let a = c .before .before .before .args in
-    c .wire-at .ensures ∙ ap (λ (b : Block). b .start) (sym (held-block (a .image .now) (a .count) (a .slots .now) (a .positions .now) (c .before .before .before .pre .0) (a .i) (c .before .before .before .pre .1)))
+    let s = c .before .before .before in
+    let a = s .args in
+    let b = held-block (a .image .now) (a .count) (a .slots .now) (a .positions .now) (s .pre .0) (a .i) (s .pre .1) in
+    c .wire-at .ensures ∙ ap (λ (b : Block). b .start) (sym b)
 
 pub start-wire-spec : {M : Type 1} → statement M
 start-wire-spec = tie.close (tie.spec element-copy-out-wire-at wire-at-requires returns)

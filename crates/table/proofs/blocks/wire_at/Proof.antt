@@ -1,4 +1,5 @@
 -- `blocks::wire_at` meets its contract: the slot's position is the one that the code holds.
+use Prim.Native.Nat.{ℕ}
 use mathlib.Core.Path.{_≡_, sym, _∙_}
 use native.Mathlib.Omega.{arith}
 use lib.ListN.{getD}
@@ -8,6 +9,13 @@ use Rattle.image.specs.Image.{wireSlot}
 use Rattle.table.specs.Chain.{chainOf, positionOf}
 use Rattle.table.proofs.blocks.wire_at.Statement.{statement}
 use Rattle.table.proofs.blocks.wire_at.Tie as tie
+
+-- from the bytes of the wire back to the entry, and the slot that the wire names
+abbrev entry : tie.After-slot-byte → tie.Start
+entry p = p .before .before
+
+abbrev source : tie.After-slot-byte → ℕ
+source p = wireSlot (entry p .args .image .now) (entry p .args .slot) (entry p .args .wire)
 
 slot-byte-requires : tie.Need-slot-byte-requires
 slot-byte-requires c κs = search needs
@@ -20,7 +28,8 @@ slot-byte-requires-2 c κs = search needs
 
 returns : tie.Need-returns
 returns c =
-    let e : wireSlot (c .before .before .before .before .args .image .now) (c .before .before .before .before .args .slot) (c .before .before .before .before .args .wire) ≡ 0 = sym (c .before .before .slot-byte .ensures) ∙ c .if1 .taken in
+    let p = c .before .before in
+    let e : source p ≡ 0 = sym (p .slot-byte .ensures) ∙ c .if1 .taken in
     simp (eq-eqb _ _ e)
 
 cast-i : tie.Need-cast-i
@@ -31,11 +40,12 @@ element-copy-out-t12 c = omega (arith, c .before .before .slot-byte .ensures)
 
 returns-2 : tie.Need-returns-2
 returns-2 c =
-    let a = c .before .before .before .before .before .args in
-    let source = wireSlot (a .image .now) (a .slot) (a .wire) in
-    let n : (source ≡ 0 → ⊥) = λ z. c .before .if1 .left (c .before .before .before .slot-byte .ensures ∙ z) in
-    let p : getD (a .positions .now) source 0 ≡ positionOf source (chainOf (a .image .now)) = c .before .before .before .before .before .pre .1 .1 .1 .placed source in
-    simp (ne-eqb _ _ n, c .before .before .before .slot-byte .ensures, p, c .before .before .slot-byte2 .ensures)
+    let w = c .before .before in
+    let p = w .before in
+    let a = entry p .args in
+    let n : (source p ≡ 0 → ⊥) = λ z. c .before .if1 .left (p .slot-byte .ensures ∙ z) in
+    let q : getD (a .positions .now) (source p) 0 ≡ positionOf (source p) (chainOf (a .image .now)) = entry p .pre .1 .1 .1 .placed (source p) in
+    simp (ne-eqb _ _ n, p .slot-byte .ensures, q, w .slot-byte2 .ensures)
 
 pub wire-at-spec : {M : Type 1} → statement M
 wire-at-spec =

@@ -19,7 +19,7 @@ abbrev image : tie.Start → List ℕ
 image p = p .args .image .now
 
 -- four bytes and more
-abbrev long : (p : tie.Else1) → leb headerLength (length (image (p .before))) ≡ true
+long : (p : tie.Else1) → leb headerLength (length (image (p .before))) ≡ true
 long p = le-leb _ _ (p .if1 .left)
 
 -- the test of the length, from those of version and N
@@ -30,10 +30,10 @@ abbrev from-count : tie.After-shared-slice-known3 → tie.Else2
 from-count p = p .before
 
 -- version and byte 3 as they should be, and N
-abbrev versioned : (p : tie.Else2) → let s = image (from-version (p .before) .before) in eqb (version s) 1 && eqb (headerZero s) 0 ≡ true
+versioned : (p : tie.Else2) → let s = image (from-version (p .before) .before) in eqb (version s) 1 && eqb (headerZero s) 0 ≡ true
 versioned p = not-false _ (p .if2 .left)
 
-abbrev counted : (p : tie.Else3) → within 1 mostSlots (slotCount (image (from-version (from-count (p .before) .before) .before))) ≡ true
+counted : (p : tie.Else3) → within 1 mostSlots (slotCount (image (from-version (from-count (p .before) .before) .before))) ≡ true
 counted p = not-false _ (p .if3 .left)
 
 returns : tie.Need-returns

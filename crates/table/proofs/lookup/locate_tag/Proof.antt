@@ -23,7 +23,7 @@ abbrev tag : tie.After-tag-form → List ℕ
 tag p = entry p .args .tag .now
 
 -- a tag in form
-abbrev in-form : (p : tie.Else1) → tagForm (tag (p .before)) ≡ true
+in-form : (p : tie.Else1) → tagForm (tag (p .before)) ≡ true
 in-form p = sym (p .before .tag-form .ensures) ∙ not-false _ (p .if1 .left)
 
 -- that test, from the search on

@@ -1,11 +1,15 @@
 -- `record::abort_ok` meets its contract: an abort wire on a kind with abort, else two zeros.
 use mathlib.Core.Path.{_≡_, sym, _∙_}
-use mathlib.Core.Bool.{true, false}
+use mathlib.Core.Bool.{Bool}
 use borrow.Author.Needs.{needs}
 use Rattle.kind.specs.Kind.{hasAbort}
 use Rattle.image.specs.Image.{kindOf}
 use Rattle.table.proofs.record.abort_ok.Statement.{statement}
 use Rattle.table.proofs.record.abort_ok.Tie as tie
+
+-- what the test of the kind says
+says : (p : tie.After-has-abort) (b : Bool) → p .has-abort .result ≡ b → let a = p .before .before .before .args in hasAbort (kindOf (a .image .now) (a .slot)) ≡ b
+says p b e = rw (p .before .slot-byte .ensures) at (sym (p .has-abort .ensures) ∙ e)
 
 slot-byte-requires : tie.Need-slot-byte-requires
 slot-byte-requires c κs = search needs
@@ -17,9 +21,7 @@ wire-ok-requires : tie.Need-wire-ok-requires
 wire-ok-requires c κs = search needs
 
 returns : tie.Need-returns
-returns c =
-    let h : hasAbort (kindOf (c .before .before .before .before .before .args .image .now) (c .before .before .before .before .before .args .slot)) ≡ true = rw (c .before .before .before .slot-byte .ensures) at (sym (c .before .before .has-abort .ensures) ∙ c .before .if1 .taken) in
-    simp h (c .wire-ok .ensures)
+returns c = simp (says (c .before .before) _ (c .before .if1 .taken)) (c .wire-ok .ensures)
 
 slot-byte-requires-2 : tie.Need-slot-byte-requires-2
 slot-byte-requires-2 c κs = search needs
@@ -32,8 +34,8 @@ slot-byte-requires-3 c κs = search needs
 
 returns-2 : tie.Need-returns-2
 returns-2 c =
-    let h : hasAbort (kindOf (c .before .before .before .before .before .before .args .image .now) (c .before .before .before .before .before .before .args .slot)) ≡ false = rw (c .before .before .before .before .slot-byte .ensures) at (sym (c .before .before .before .has-abort .ensures) ∙ c .before .before .if1 .left) in
-    simp (h, c .before .slot-byte2 .ensures, c .slot-byte3 .ensures)
+    let e = c .before .before in
+    simp (says (e .before) _ (e .if1 .left), c .before .slot-byte2 .ensures, c .slot-byte3 .ensures)
 
 pub abort-ok-spec : {M : Type 1} → statement M
 abort-ok-spec =

@@ -1,5 +1,7 @@
 -- `record::check_record` meets its contract: each return is where the tests before it lead.
+use Prim.Native.Nat.{ℕ}
 use mathlib.Core.Path.{_≡_, sym, _∙_}
+use mathlib.Core.List.{List}
 use mathlib.Core.Bool.{true, false}
 use borrow.Author.Needs.{needs}
 use borrow.Author.Tests.{not-true, not-false}
@@ -10,15 +12,48 @@ use Rattle.table.specs.Record.{kindOk, startOk, abortOk, recordCheck}
 use Rattle.table.proofs.record.check_record.Statement.{statement}
 use Rattle.table.proofs.record.check_record.Tie as tie
 
+-- from the place after a test back to the place after the one before it
+abbrev entry : tie.After-kind-ok → tie.Start
+entry p = p .before .before
+
+abbrev after-kind : tie.After-slot-tag-form → tie.Else1
+after-kind p = p .before
+
+abbrev after-form : tie.Else3 → tie.Else2
+after-form p = p .before
+
+abbrev after-repeated : tie.After-wire-ok → tie.Else3
+after-repeated p = p .before
+
+abbrev after-start : tie.After-abort-ok → tie.Else4
+after-start p = p .before
+
+-- the image and the slot
+abbrev image : tie.Else1 → List ℕ
+image p = entry (p .before) .args .image .now
+
+abbrev slot : tie.Else1 → ℕ
+slot p = entry (p .before) .args .slot
+
+-- what is known after each test
+kind : (p : tie.Else1) → kindOk (image p) (slot p) ≡ true
+kind p = sym (p .before .kind-ok .ensures) ∙ not-false _ (p .if1 .left)
+
+form : (p : tie.Else2) → let e = after-kind (p .before) in tagForm (tagOf (image e) (slot e)) ≡ true
+form p = sym (p .before .slot-tag-form .ensures) ∙ not-false _ (p .if2 .left)
+
+start : (p : tie.Else4) → let e = after-kind (after-form (after-repeated (p .before)) .before) in startOk (image e) (chainOf (image e)) (slot e) ≡ true
+start p = sym (p .before .wire-ok .ensures) ∙ not-false _ (p .if4 .left)
+
 kind-ok-requires : tie.Need-kind-ok-requires
 kind-ok-requires c κs = search needs
 
 returns : tie.Need-returns
 unfolding recordCheck
 returns c =
-    let a = c .before .before .before .args in
-    let kind : kindOk (a .image .now) (a .slot) ≡ false = sym (c .before .kind-ok .ensures) ∙ not-true _ (c .if1 .taken) in
-    simp kind
+    let a = entry (c .before) .args in
+    let other : kindOk (a .image .now) (a .slot) ≡ false = sym (c .before .kind-ok .ensures) ∙ not-true _ (c .if1 .taken) in
+    simp other
 
 slot-tag-form-requires : tie.Need-slot-tag-form-requires
 slot-tag-form-requires c κs = search needs
@@ -26,18 +61,13 @@ slot-tag-form-requires c κs = search needs
 returns-2 : tie.Need-returns-2
 unfolding recordCheck
 returns-2 c =
-    let a = c .before .before .before .before .before .args in
-    let kind : kindOk (a .image .now) (a .slot) ≡ true = sym (c .before .before .before .kind-ok .ensures) ∙ not-false _ (c .before .before .if1 .left) in
-    let tag : tagForm (tagOf (a .image .now) (a .slot)) ≡ false = sym (c .before .slot-tag-form .ensures) ∙ not-true _ (c .if2 .taken) in
-    simp (kind, tag)
+    let e = after-kind (c .before) in
+    let other : tagForm (tagOf (image e) (slot e)) ≡ false = sym (c .before .slot-tag-form .ensures) ∙ not-true _ (c .if2 .taken) in
+    simp (kind e, other)
 
 returns-3 : tie.Need-returns-3
 unfolding recordCheck
-returns-3 c =
-    let a = c .before .before .before .before .before .before .args in
-    let kind : kindOk (a .image .now) (a .slot) ≡ true = sym (c .before .before .before .before .kind-ok .ensures) ∙ not-false _ (c .before .before .before .if1 .left) in
-    let tag : tagForm (tagOf (a .image .now) (a .slot)) ≡ true = sym (c .before .before .slot-tag-form .ensures) ∙ not-false _ (c .before .if2 .left) in
-    simp (kind, tag, c .if3 .taken)
+returns-3 c = simp (kind (after-kind (c .before .before)), form (c .before), c .if3 .taken)
 
 wire-ok-requires : tie.Need-wire-ok-requires
 wire-ok-requires c κs = search needs
@@ -45,11 +75,11 @@ wire-ok-requires c κs = search needs
 returns-4 : tie.Need-returns-4
 unfolding recordCheck
 returns-4 c =
-    let a = c .before .before .before .before .before .before .before .before .args in
-    let kind : kindOk (a .image .now) (a .slot) ≡ true = sym (c .before .before .before .before .before .before .kind-ok .ensures) ∙ not-false _ (c .before .before .before .before .before .if1 .left) in
-    let tag : tagForm (tagOf (a .image .now) (a .slot)) ≡ true = sym (c .before .before .before .before .slot-tag-form .ensures) ∙ not-false _ (c .before .before .before .if2 .left) in
-    let start : startOk (a .image .now) (chainOf (a .image .now)) (a .slot) ≡ false = sym (c .before .wire-ok .ensures) ∙ not-true _ (c .if4 .taken) in
-    simp (kind, tag, c .before .before .if3 .left, start)
+    let r = after-repeated (c .before) in
+    let f = after-form r in
+    let e = after-kind (f .before) in
+    let other : startOk (image e) (chainOf (image e)) (slot e) ≡ false = sym (c .before .wire-ok .ensures) ∙ not-true _ (c .if4 .taken) in
+    simp (kind e, form f, r .if3 .left, other)
 
 abort-ok-requires : tie.Need-abort-ok-requires
 abort-ok-requires c κs = search needs
@@ -57,22 +87,22 @@ abort-ok-requires c κs = search needs
 returns-5 : tie.Need-returns-5
 unfolding recordCheck
 returns-5 c =
-    let a = c .before .before .before .before .before .before .before .before .before .before .args in
-    let kind : kindOk (a .image .now) (a .slot) ≡ true = sym (c .before .before .before .before .before .before .before .before .kind-ok .ensures) ∙ not-false _ (c .before .before .before .before .before .before .before .if1 .left) in
-    let tag : tagForm (tagOf (a .image .now) (a .slot)) ≡ true = sym (c .before .before .before .before .before .before .slot-tag-form .ensures) ∙ not-false _ (c .before .before .before .before .before .if2 .left) in
-    let start : startOk (a .image .now) (chainOf (a .image .now)) (a .slot) ≡ true = sym (c .before .before .before .wire-ok .ensures) ∙ not-false _ (c .before .before .if4 .left) in
-    let abort : abortOk (a .image .now) (chainOf (a .image .now)) (a .slot) ≡ false = sym (c .before .abort-ok .ensures) ∙ not-true _ (c .if5 .taken) in
-    simp (kind, tag, c .before .before .before .before .if3 .left, start, abort)
+    let w = after-start (c .before) in
+    let r = after-repeated (w .before) in
+    let f = after-form r in
+    let e = after-kind (f .before) in
+    let abort : abortOk (image e) (chainOf (image e)) (slot e) ≡ false = sym (c .before .abort-ok .ensures) ∙ not-true _ (c .if5 .taken) in
+    simp (kind e, form f, r .if3 .left, start w, abort)
 
 returns-6 : tie.Need-returns-6
 unfolding recordCheck
 returns-6 c =
-    let a = c .before .before .before .before .before .before .before .before .before .before .args in
-    let kind : kindOk (a .image .now) (a .slot) ≡ true = sym (c .before .before .before .before .before .before .before .before .kind-ok .ensures) ∙ not-false _ (c .before .before .before .before .before .before .before .if1 .left) in
-    let tag : tagForm (tagOf (a .image .now) (a .slot)) ≡ true = sym (c .before .before .before .before .before .before .slot-tag-form .ensures) ∙ not-false _ (c .before .before .before .before .before .if2 .left) in
-    let start : startOk (a .image .now) (chainOf (a .image .now)) (a .slot) ≡ true = sym (c .before .before .before .wire-ok .ensures) ∙ not-false _ (c .before .before .if4 .left) in
-    let abort : abortOk (a .image .now) (chainOf (a .image .now)) (a .slot) ≡ true = sym (c .before .abort-ok .ensures) ∙ not-false _ (c .if5 .left) in
-    simp (kind, tag, c .before .before .before .before .if3 .left, start, abort)
+    let w = after-start (c .before) in
+    let r = after-repeated (w .before) in
+    let f = after-form r in
+    let e = after-kind (f .before) in
+    let abort : abortOk (image e) (chainOf (image e)) (slot e) ≡ true = sym (c .before .abort-ok .ensures) ∙ not-false _ (c .if5 .left) in
+    simp (kind e, form f, r .if3 .left, start w, abort)
 
 pub check-record-spec : {M : Type 1} → statement M
 check-record-spec =
