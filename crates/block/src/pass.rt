@@ -49,14 +49,20 @@ pub fn one_pass(kind: u8, i: Inputs, e: Entry, r: Record) -> Pass
     ensures { λ p. ⌜ p ≡ pass kind i e r ⌝ }
 {
     let step = r.step;
-    match step {
-        Record::DORMANT => crate::dormant::dormant(kind, i, e, r),
-        Record::EXECUTING => crate::executing::executing(kind, i, e, r),
-        Record::DONE => crate::ended::ended(kind, i, r),
-        Record::ERROR => crate::ended::ended(kind, i, r),
-        Record::ABORTED => crate::ended::ended(kind, i, r),
-        Record::ABORTING => crate::aborting::aborting(kind, e, r),
-        Record::RESETTING => crate::resetting::resetting(e, r),
-        _ => Pass::stop(0, r),
+    if step == Record::DORMANT {
+        return crate::dormant::dormant(kind, i, e, r);
     }
+    if step == Record::EXECUTING {
+        return crate::executing::executing(kind, i, e, r);
+    }
+    if (step == Record::DONE) | (step == Record::ERROR) | (step == Record::ABORTED) {
+        return crate::ended::ended(kind, i, r);
+    }
+    if step == Record::ABORTING {
+        return crate::aborting::aborting(kind, e, r);
+    }
+    if step == Record::RESETTING {
+        return crate::resetting::resetting(e, r);
+    }
+    Pass::stop(0, r)
 }

@@ -3,6 +3,7 @@ use Prim.Native.Nat.{ℕ, _+_}
 use mathlib.Core.List.{List}
 use Rattle.words.specs.Word.{numberAt}
 use Rattle.layout.specs.Buffer.{byteAt, jobWidth}
+use Rattle.layout.specs.EventLayout.{eventOffset}
 use Rattle.conformance.specs.declared.read.Report.{Report}
 use Rattle.conformance.specs.declared.read.Posted.{Posted}
 
@@ -22,6 +23,6 @@ reportAt s at =
 abbrev pub postedAt : List ℕ → ℕ → Posted
 postedAt s at =
     record {
-      position = byteAt s (at + 1);
-      event = record { kind = byteAt s at; code = numberAt 2 s (at + 2); job = numberAt jobWidth s (at + 4) };
+      position = byteAt s (at + eventOffset .position);
+      event = record { kind = byteAt s at; code = numberAt 2 s (at + eventOffset .code); job = numberAt jobWidth s (at + eventOffset .job) };
     }

@@ -11,6 +11,10 @@ use crate::text::number;
 use crate::text::print;
 use block::entry::Entry;
 use engine::scan::Scanned;
+use layout::entry::ENTRY_BYTES;
+use layout::event::EVENT_BYTES;
+use layout::record::RECORD_BYTES;
+use layout::report::REPORT_BYTES;
 use table::check::Checked;
 use table::lookup::Found;
 
@@ -37,10 +41,10 @@ fn found_line(tag: &[u8]) {
 }
 
 // The report entry of a tag, by its position.
-fn report_line(tag: &[u8], report: &[u8; 24]) {
+fn report_line(tag: &[u8], report: &[u8; 2 * REPORT_BYTES]) {
     match position_of(tag) {
         1 => line::report_at(tag, report, 0),
-        2 => line::report_at(tag, report, 12),
+        2 => line::report_at(tag, report, REPORT_BYTES),
         _ => column(tag, 10),
     }
     print(b"\n");
@@ -68,7 +72,7 @@ fn journal_line(journal: &[u8], count: usize) {
         if 0 < i {
             print(b", ");
         }
-        let posted = posted_at(journal, 8 * i);
+        let posted = posted_at(journal, EVENT_BYTES * i);
         print_tag(posted.position as usize);
         names::event(posted.event);
         i += 1;
@@ -76,14 +80,19 @@ fn journal_line(journal: &[u8], count: usize) {
     print(b"\n");
 }
 
-fn frame_of(first: Entry, second: Entry) -> [u8; 112] {
-    let mut frame = [0; 112];
+fn frame_of(first: Entry, second: Entry) -> [u8; 2 * ENTRY_BYTES] {
+    let mut frame = [0; 2 * ENTRY_BYTES];
     layout::entry::write_entry(&mut frame, first);
-    layout::entry::write_entry(&mut frame[56..], second);
+    layout::entry::write_entry(&mut frame[ENTRY_BYTES..], second);
     frame
 }
 
-fn answer_lines(name: &[u8], answer: Scanned, report: &[u8; 24], journal: &[u8; 32]) {
+fn answer_lines(
+    name: &[u8],
+    answer: Scanned,
+    report: &[u8; 2 * REPORT_BYTES],
+    journal: &[u8; 4 * EVENT_BYTES],
+) {
     match answer {
         Scanned::Events(count) => {
             line::heading(name);
@@ -100,18 +109,18 @@ fn answer_lines(name: &[u8], answer: Scanned, report: &[u8; 24], journal: &[u8; 
     }
 }
 
-fn scan(name: &[u8], state: &mut [u8; 64], first: Entry, second: Entry) {
+fn scan(name: &[u8], state: &mut [u8; 2 * RECORD_BYTES], first: Entry, second: Entry) {
     let image = image();
     let frame = frame_of(first, second);
-    let mut report = [0; 24];
-    let mut journal = [0; 32];
+    let mut report = [0; 2 * REPORT_BYTES];
+    let mut journal = [0; 4 * EVENT_BYTES];
     let answer = engine::scan::scan(&image, state, &frame, &mut report, &mut journal);
     answer_lines(name, answer, &report, &journal);
 }
 
-fn fresh_state() -> [u8; 64] {
+fn fresh_state() -> [u8; 2 * RECORD_BYTES] {
     let image = image();
-    let mut state = [255; 64];
+    let mut state = [255; 2 * RECORD_BYTES];
     let answer = engine::fresh::fresh(&image, &mut state);
     column(b"fresh", 10);
     match answer {

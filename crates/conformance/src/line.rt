@@ -6,8 +6,10 @@ use crate::text::column;
 use crate::text::number;
 use crate::text::number_column;
 use crate::text::print;
+use layout::event::EVENT_BYTES;
 ghost use Prim.Native.Nat.{_+_, _≤_};
 ghost use lib.ListN.{length};
+ghost use Rattle.layout.specs.Buffer.{reportLength};
 
 // The names of the columns; the first and the last are the caller's.
 pub fn heading(first: &[u8]) {
@@ -31,7 +33,7 @@ fn report(name: &[u8], r: Report) {
 
 // The report entry from the place `at` on, whole.
 pub fn report_at(name: &[u8], s: &[u8], at: usize)
-    requires { ⌜ at + 12 ≤ length (now s) ⌝ }
+    requires { ⌜ at + reportLength ≤ length (now s) ⌝ }
 {
     let r = read::report_at(s, at);
     report(name, r);
@@ -46,7 +48,7 @@ fn events(journal: &[u8], count: usize) {
         if 0 < i {
             print(b", ");
         }
-        let posted = read::posted_at(journal, 8 * i);
+        let posted = read::posted_at(journal, EVENT_BYTES * i);
         names::event(posted.event);
         i += 1;
     }
@@ -54,7 +56,7 @@ fn events(journal: &[u8], count: usize) {
 
 // The report entry of the only block, and the events of its call.
 pub fn call(name: &[u8], s: &[u8], journal: &[u8], count: usize)
-    requires { ⌜ 12 ≤ length (now s) ⌝ }
+    requires { ⌜ reportLength ≤ length (now s) ⌝ }
 {
     let r = read::report_at(s, 0);
     report(name, r);

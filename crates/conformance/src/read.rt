@@ -1,8 +1,10 @@
 // Report entries and journal events, read from bytes.
 use block::event::Event;
+use layout::event::EVENT_BYTES;
 ghost use mathlib.Core.Path.{_≡_};
 ghost use Prim.Native.Nat.{_+_, _*_, _≤_};
 ghost use lib.ListN.{length};
+ghost use Rattle.layout.specs.Buffer.{reportLength, eventLength};
 ghost use Rattle.conformance.specs.Read.{reportAt, postedAt};
 
 // What a call leaves, as its report entry says it.
@@ -23,7 +25,7 @@ pub struct Posted {
 
 // The report entry from the place `at` on.
 pub fn report_at(s: &[u8], at: usize) -> Report
-    requires { ⌜ at + 12 ≤ length (now s) ⌝ }
+    requires { ⌜ at + reportLength ≤ length (now s) ⌝ }
     ensures { λ r. ⌜ r ≡ reportAt (now (s .entry)) at ⌝ }
 {
     Report {
@@ -38,7 +40,7 @@ pub fn report_at(s: &[u8], at: usize) -> Report
 
 // The event from the place `at` on.
 pub fn posted_at(s: &[u8], at: usize) -> Posted
-    requires { ⌜ at + 8 ≤ length (now s) ⌝ }
+    requires { ⌜ at + eventLength ≤ length (now s) ⌝ }
     ensures { λ r. ⌜ r ≡ postedAt (now (s .entry)) at ⌝ }
 {
     let event = Event {
@@ -54,9 +56,9 @@ pub fn posted_at(s: &[u8], at: usize) -> Posted
 
 // How many events of a journal may be read: what the scan answered, within the journal's bytes.
 pub fn readable(count: usize, journal: &[u8]) -> usize
-    ensures { λ r. ⌜ 8 * r ≤ length (now (journal .entry)) ⌝ }
+    ensures { λ r. ⌜ eventLength * r ≤ length (now (journal .entry)) ⌝ }
 {
-    let room = journal.len() / 8;
+    let room = journal.len() / EVENT_BYTES;
     if count < room {
         return count;
     }

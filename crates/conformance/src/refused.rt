@@ -4,6 +4,7 @@ use crate::frame::with_job;
 use crate::frame::working;
 use crate::line;
 use crate::names;
+use crate::single::ONE_SLOT;
 use crate::single::fresh_state;
 use crate::single::image_of;
 use crate::single::scan;
@@ -11,6 +12,9 @@ use crate::text::column;
 use crate::text::print;
 use block::entry::Entry;
 use engine::scan::Scanned;
+use layout::event::EVENT_BYTES;
+use layout::record::RECORD_BYTES;
+use layout::report::REPORT_BYTES;
 
 fn answer_line(name: &[u8], answer: Scanned) {
     column(name, 10);
@@ -22,10 +26,10 @@ fn answer_line(name: &[u8], answer: Scanned) {
 }
 
 // A scan whose journal is a byte too short for the two events of a block.
-fn short_scan(name: &[u8], image: &[u8; 20], state: &mut [u8; 32], entry: Entry) {
+fn short_scan(name: &[u8], image: &[u8; ONE_SLOT], state: &mut [u8; RECORD_BYTES], entry: Entry) {
     let frame = layout::entry::encode_entry(entry);
-    let mut report = [0; 12];
-    let mut journal = [0; 15];
+    let mut report = [0; REPORT_BYTES];
+    let mut journal = [0; 2 * EVENT_BYTES - 1];
     let answer = engine::scan::scan(image, state, &frame, &mut report, &mut journal);
     answer_line(name, answer);
 }

@@ -4,6 +4,7 @@ use mathlib.Core.List.{List}
 use mathlib.Core.Path.{_≡_, refl, ap, sym, _∙_}
 use lib.ListN.{length, replicate}
 use borrow.Author.Tests.{eq-eqb, ne-eqb}
+use Rattle.image.specs.Image.{mostSlots}
 use Rattle.table.specs.Check.{checkedAnswer, checkOf}
 use Rattle.table.specs.Blocks.{Block, blocksOf}
 use Rattle.table.specs.declared.place.Place.{Place}
@@ -34,7 +35,7 @@ module _ (image state : List ℕ) (table : Checked) (checked : table ≡ checkOf
   unfolding freshOf
   fresh-refused number place e = rw (sym checked ∙ e) (e, (ap checkedAnswer e, refl))
 
-  pub fresh-few : (n : ℕ) → table ≡ Blocks n → n ≤ 64
+  pub fresh-few : (n : ℕ) → table ≡ Blocks n → n ≤ mostSlots
   fresh-few n e = accepted-few image n (sym checked ∙ e)
 
   pub fresh-20 : (n : ℕ) → table ≡ Blocks n → (length state ≡ recordLength * n → ⊥) → Freshens (Refused 20 Header) state

@@ -21,7 +21,12 @@ clearing-on lent buffer i h l =
     record {
       sized = length-set buffer i 0 ∙ h .sized;
       within = rw length-set (omega arith);
-      zeros = rw add-one (take-suc-set buffer i 0 l ∙ ap {B = List ℕ} (λ z. z ++ (0 ∷ [])) (h .zeros) ∙ replicate-append-replicate {A = ℕ} i 1 0 ∙ ap (λ (n : ℕ). replicate n 0) (add-one i));
+      zeros =
+          rw add-one
+          (take-suc-set buffer i 0 l
+          ∙ ap {B = List ℕ} (λ z. z ++ (0 ∷ [])) (h .zeros)
+          ∙ replicate-append-replicate {A = ℕ} i 1 0
+          ∙ ap (λ (n : ℕ). replicate n 0) (add-one i));
     }
 
 pub clearing-end : (lent buffer : List ℕ) (i : ℕ) → Clearing lent buffer i → length buffer ≤ i → buffer ≡ replicate (length lent) 0

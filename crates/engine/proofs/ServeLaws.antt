@@ -14,7 +14,7 @@ use lib.Seq.{getD-take, getD-drop}
 use Rattle.table.specs.declared.blocks.Wiring.{Wiring}
 use borrow.Author.Tests.{not-true, eqb-true}
 use Rattle.layout.specs.Buffer.{recordLength, entryLength, reportLength, eventLength, byteAt, part, put}
-use Rattle.layout.specs.RecordLayout.{decodeFlags, encodeRecord, decodeRecord}
+use Rattle.layout.specs.RecordLayout.{recordOffset, decodeFlags, encodeRecord, decodeRecord}
 use Rattle.layout.specs.EntryLayout.{decodeEntry, decodeInputs}
 use Rattle.layout.specs.ReportLayout.{encodeReport}
 use Rattle.layout.specs.EventLayout.{encodeEvent, encodeEvents}
@@ -36,9 +36,9 @@ use Rattle.engine.specs.Callable.{Callable}
 use Rattle.engine.specs.Serve.{Buffers, recordIn, entryIn, idle, callIn, written, served}
 
 -- "1 flags": byte 1 of the block's record
-pub flags-at : (state : List ℕ) (i : ℕ) → decodeFlags (getD state (recordLength * i + 1) 0) ≡ flagsIn state i
+pub flags-at : (state : List ℕ) (i : ℕ) → decodeFlags (getD state (recordLength * i + recordOffset .flags) 0) ≡ flagsIn state i
 unfolding decodeRecord
-flags-at state i = ap decodeFlags (sym (getD-take recordLength (drop (recordLength * i) state) 1 0 (lit< tt) ∙ getD-drop (recordLength * i) state 1 0))
+flags-at state i = ap decodeFlags (sym (getD-take recordLength (drop (recordLength * i) state) (recordOffset .flags) 0 (lit< tt) ∙ getD-drop (recordLength * i) state (recordOffset .flags) 0))
 
 -- the step and the inputs: byte 0 of the block's record, and of its entry
 pub step-at : (state : List ℕ) (i : ℕ) → getD state (recordLength * i) 0 ≡ recordIn state i .step
@@ -82,7 +82,8 @@ module _ (n position : ℕ) (first second : Event) (count : ℕ) (journal : List
       let y = encodeEvent position second in
       let lx : length x ≡ eventLength = event-length position first in
       let ly : length y ≡ eventLength = event-length position second in
-      let p : put (eventLength * n + eventLength) y (put (eventLength * n) x journal) ≡ put (eventLength * n) (x ++ y) journal = put-next (eventLength * n) eventLength x y journal lx (omega arith) in
+      let p : put (eventLength * n + eventLength) y (put (eventLength * n) x journal) ≡ put (eventLength * n) (x ++ y) journal =
+      put-next (eventLength * n) eventLength x y journal lx (omega arith) in
       rw (both z o, append-nil) (refl, g ∙ ap (put (eventLength * n + eventLength) y) h ∙ p)
 
 -- what a call leaves in the buffers, put together

@@ -93,7 +93,8 @@ module _ (blocks : List Block) (told : Told) (state₀ report₀ journal₀ : Li
         rw add-one (record { within = l; whole = rw eb at e ∙ ap (served (wiringAt blocks i) i (told .frame)) (h .whole) })
 
     -- the next block of an accepted table can be called
-    pub serving-callable : (image : List ℕ) (n : ℕ) → checkOf image ≡ Blocks n → blocks ≡ blocksOf image → StateFits blocks state₀ → GivenFits blocks told report₀ journal₀ → i < n
+    pub serving-callable : (image : List ℕ) (n : ℕ) → checkOf image ≡ Blocks n → blocks ≡ blocksOf image
+        → StateFits blocks state₀ → GivenFits blocks told report₀ journal₀ → i < n
         → (Callable (b .kind) i (told .frame) state × Reached b state) × HasRoom i events report journal
     serving-callable image n ok from s g l =
         let z = serving-sized s g in

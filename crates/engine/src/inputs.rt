@@ -1,6 +1,7 @@
 // Wires and frame to the inputs of a call.
 use block::entry::Inputs;
 use block::record::Flags;
+use layout::record::FLAGS_OFFSET;
 use layout::record::RECORD_BYTES;
 use table::blocks::Wire;
 ghost use mathlib.Core.Path.{_≡_};
@@ -35,7 +36,7 @@ fn input_of(w: Wire, state: &[u8], bit: bool) -> bool
         return bit;
     }
     let i = position as usize - 1;
-    let flags = layout::record::decode_flags(state[RECORD_BYTES * i + 1]);
+    let flags = layout::record::decode_flags(state[RECORD_BYTES * i + FLAGS_OFFSET]);
     let flag = flag_of(w.flag, flags);
     if w.inverted {
         return !flag;

@@ -104,8 +104,8 @@ fn head_fits(s: &[u8]) -> bool
     let replies = (s[COUNT_OFFSET] <= Entry::MOST_PIECES)
         & (s[ABORT_REPLY_OFFSET] <= Entry::ERROR)
         & (s[RESET_REPLY_OFFSET] <= Entry::COMPLETE);
-    let code = words::u16_at(s, ABORT_CODE_OFFSET);
-    form & (replies & block::entry::code_fits(s[ABORT_REPLY_OFFSET], code))
+    let reply = s[ABORT_REPLY_OFFSET];
+    form & (replies & block::entry::code_fits(reply, words::u16_at(s, ABORT_CODE_OFFSET)))
 }
 
 // A piece of the count: its reply and the zero byte after it, then its code.

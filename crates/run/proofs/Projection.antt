@@ -77,7 +77,8 @@ module _ (blocks : List Block) (told : Told) (state report journal : List ℕ) w
         go true e =
             let h : i < k = ltb-true i k e in
             ap (λ (p : List ℕ). decodeRecord p .flags)
-            (laws.state-earlier blocks told state report journal sized k i (omega arith) h ∙ sym (laws.state-earlier blocks told state report journal sized (length blocks) i (omega arith) (omega arith)))
+            (laws.state-earlier blocks told state report journal sized k i (omega arith) h
+            ∙ sym (laws.state-earlier blocks told state report journal sized (length blocks) i (omega arith) (omega arith)))
         go false e = ap (λ (p : List ℕ). decodeRecord p .flags) (laws.state-later blocks told state report journal sized k i (omega arith) (ltb-false i k e))
 
     module _ (k : ℕ) (l : k < length blocks) where

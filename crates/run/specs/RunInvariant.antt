@@ -47,7 +47,8 @@ module _ (image buffer : List ℕ) (scans : Scans) (k : ℕ) where
         ≡ countOf DoneEvent blockEntries + countOf Failed blockEntries + countOf AbortedEvent blockEntries + countOf Withdrawn blockEntries + bit (isOpen (blockRecord .step))
     -- no flag in Dormant, one in every other step
     pub flags : flagCount (blockRecord .flags) ≡ cond (eqb (blockRecord .step) Dormant) 0 1
-    -- each accepted scan called the block by the rules, from the record before to the record after, with the passes (at most 6) and pieces of its report; "A start's job is that of the block's frame entry in the scan that wrote it"
+    -- each accepted scan called the block by the rules, from the record before to the record after, with the passes (at most 6) and pieces of its
+    -- report; "A start's job is that of the block's frame entry in the scan that wrote it"
     pub calls : EachCall blockKind (historyOf image buffer k scans)
     -- the entries are the events of these calls, in the order of the scans
     pub entries : blockEntries ≡ eventsOf (historyOf image buffer k scans)

@@ -1,7 +1,5 @@
--- `one_pass` meets its contract: one arm for each step, and one for no step.
-use Prim.Native.Nat.{ℕ}
-use mathlib.Core.Path.{_∙_, ap, sym}
-use borrow.Author.Tests.{ne-eqb}
+-- `one_pass` meets its contract: one arm for each rule, by the tests of the definition, and one for no step.
+use borrow.Author.Tests.{eq-eqb, ne-eqb}
 use Rattle.block.specs.Rules.{rule}
 use borrow.Author.Needs.{needs}
 use Rattle.block.proofs.pass.one_pass.Statement.{statement}
@@ -10,97 +8,84 @@ use Rattle.block.proofs.pass.one_pass.Tie as tie
 dormant-requires : tie.Need-dormant-requires
 dormant-requires c κs = search needs
 
-executing-requires : tie.Need-executing-requires
-executing-requires c κs = search needs
-
-ended-requires : tie.Need-ended-requires
-ended-requires c κs = search needs
-
-ended-requires-2 : tie.Need-ended-requires-2
-ended-requires-2 c κs = search needs
-
-ended-requires-3 : tie.Need-ended-requires-3
-ended-requires-3 c κs = search needs
-
-aborting-requires : tie.Need-aborting-requires
-aborting-requires c κs = search needs
-
-resetting-requires : tie.Need-resetting-requires
-resetting-requires c κs = search needs
-
-stop-requires : tie.Need-stop-requires
-stop-requires c κs = search needs
-
 returns : tie.Need-returns
 unfolding rule
 returns c =
-    let a = c .before .before .args in
-    c .dormant .ensures ∙ sym (ap (λ (n : ℕ). rule n (a .kind) (a .i) (a .e) (a .r)) (c .before .match .keys1))
+    let after-if1 = c .before in
+    rw (eq-eqb _ _ (after-if1 .if1 .taken)) (c .dormant .ensures)
+
+executing-requires : tie.Need-executing-requires
+executing-requires c κs = search needs
 
 returns-2 : tie.Need-returns-2
 unfolding rule
 returns-2 c =
-    let a = c .before .before .args in
-    c .executing .ensures ∙ sym (ap (λ (n : ℕ). rule n (a .kind) (a .i) (a .e) (a .r)) (c .before .match .keys2))
+    let after-if2 = c .before in
+    let after-if1 = after-if2 .before in
+    rw (ne-eqb _ _ (after-if1 .if1 .left), eq-eqb _ _ (after-if2 .if2 .taken)) (c .executing .ensures)
+
+ended-requires : tie.Need-ended-requires
+ended-requires c κs = search needs
 
 returns-3 : tie.Need-returns-3
 unfolding rule
 returns-3 c =
-    let a = c .before .before .args in
-    c .ended .ensures ∙ sym (ap (λ (n : ℕ). rule n (a .kind) (a .i) (a .e) (a .r)) (c .before .match .keys3))
+    let after-if3 = c .before in
+    let after-if2 = after-if3 .before in
+    let after-if1 = after-if2 .before in
+    rw (ne-eqb _ _ (after-if1 .if1 .left), ne-eqb _ _ (after-if2 .if2 .left), after-if3 .if3 .taken) (c .ended .ensures)
+
+aborting-requires : tie.Need-aborting-requires
+aborting-requires c κs = search needs
 
 returns-4 : tie.Need-returns-4
 unfolding rule
 returns-4 c =
-    let a = c .before .before .args in
-    c .ended2 .ensures ∙ sym (ap (λ (n : ℕ). rule n (a .kind) (a .i) (a .e) (a .r)) (c .before .match .keys4))
+    let after-if4 = c .before in
+    let after-if3 = after-if4 .before in
+    let after-if2 = after-if3 .before in
+    let after-if1 = after-if2 .before in
+    rw (ne-eqb _ _ (after-if1 .if1 .left), ne-eqb _ _ (after-if2 .if2 .left), after-if3 .if3 .left, eq-eqb _ _ (after-if4 .if4 .taken)) (c .aborting .ensures)
+
+resetting-requires : tie.Need-resetting-requires
+resetting-requires c κs = search needs
 
 returns-5 : tie.Need-returns-5
 unfolding rule
 returns-5 c =
-    let a = c .before .before .args in
-    c .ended3 .ensures ∙ sym (ap (λ (n : ℕ). rule n (a .kind) (a .i) (a .e) (a .r)) (c .before .match .keys5))
+    let after-if5 = c .before in
+    let after-if4 = after-if5 .before in
+    let after-if3 = after-if4 .before in
+    let after-if2 = after-if3 .before in
+    let after-if1 = after-if2 .before in
+    rw (ne-eqb _ _ (after-if1 .if1 .left), ne-eqb _ _ (after-if2 .if2 .left), after-if3 .if3 .left, ne-eqb _ _ (after-if4 .if4 .left), eq-eqb _ _ (after-if5 .if5 .taken)) (c .resetting .ensures)
+
+stop-requires : tie.Need-stop-requires
+stop-requires c κs = search needs
 
 returns-6 : tie.Need-returns-6
 unfolding rule
 returns-6 c =
-    let a = c .before .before .args in
-    c .aborting .ensures ∙ sym (ap (λ (n : ℕ). rule n (a .kind) (a .i) (a .e) (a .r)) (c .before .match .keys6))
-
-returns-7 : tie.Need-returns-7
-unfolding rule
-returns-7 c =
-    let a = c .before .before .args in
-    c .resetting .ensures ∙ sym (ap (λ (n : ℕ). rule n (a .kind) (a .i) (a .e) (a .r)) (c .before .match .keys7))
-
-returns-8 : tie.Need-returns-8
-unfolding rule
-returns-8 c =
-    let rest = c .before .match .rest in
-    let dormant = ne-eqb _ _ (rest .0 .0 .0 .0 .0 .0 .1) in
-    let executing = ne-eqb _ _ (rest .0 .0 .0 .0 .0 .1) in
-    let done = ne-eqb _ _ (rest .0 .0 .0 .0 .1) in
-    let error = ne-eqb _ _ (rest .0 .0 .0 .1) in
-    let aborted = ne-eqb _ _ (rest .0 .0 .1) in
-    rw (dormant, executing, done, error, aborted, ne-eqb _ _ (rest .0 .1), ne-eqb _ _ (rest .1)) (c .stop .ensures)
+    let after-if5 = c .before in
+    let after-if4 = after-if5 .before in
+    let after-if3 = after-if4 .before in
+    let after-if2 = after-if3 .before in
+    let after-if1 = after-if2 .before in
+    rw (ne-eqb _ _ (after-if1 .if1 .left), ne-eqb _ _ (after-if2 .if2 .left), after-if3 .if3 .left, ne-eqb _ _ (after-if4 .if4 .left), ne-eqb _ _ (after-if5 .if5 .left)) (c .stop .ensures)
 
 pub one-pass-spec : {M : Type 1} → statement M
 one-pass-spec =
     tie.close
     (tie.spec
     dormant-requires
-    executing-requires
-    ended-requires
-    ended-requires-2
-    ended-requires-3
-    aborting-requires
-    resetting-requires
-    stop-requires
     returns
+    executing-requires
     returns-2
+    ended-requires
     returns-3
+    aborting-requires
     returns-4
+    resetting-requires
     returns-5
-    returns-6
-    returns-7
-    returns-8)
+    stop-requires
+    returns-6)

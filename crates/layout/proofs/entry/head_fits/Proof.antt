@@ -26,11 +26,11 @@ shared-slice-read-replies-2 c = search needs
 shared-slice-read-replies-3 : tie.Need-shared-slice-read-replies-3
 shared-slice-read-replies-3 c = search needs
 
+shared-slice-read-reply : tie.Need-shared-slice-read-reply
+shared-slice-read-reply c = search needs
+
 u16-at-requires-2 : tie.Need-u16-at-requires-2
 u16-at-requires-2 c κs = search needs
-
-shared-slice-read-code-fits : tie.Need-shared-slice-read-code-fits
-shared-slice-read-code-fits c = search needs
 
 code-fits-requires : tie.Need-code-fits-requires
 code-fits-requires c κs = search needs
@@ -38,8 +38,8 @@ code-fits-requires c κs = search needs
 returns : tie.Need-returns
 unfolding decodeEntry
 returns c =
-    let coded = c .before .before in
-    let formed = coded .before .before .before .before in
+    let coded = c .before in
+    let formed = coded .before .before .before .before .before in
     let start = formed .before .before .before in
     let s = start .args .s .now in
     let abortReply = byteAt s (entryOffset .abortReply) in
@@ -57,7 +57,7 @@ head-fits-spec =
     shared-slice-read-replies
     shared-slice-read-replies-2
     shared-slice-read-replies-3
+    shared-slice-read-reply
     u16-at-requires-2
-    shared-slice-read-code-fits
     code-fits-requires
     returns)
