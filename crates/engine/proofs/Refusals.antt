@@ -1,4 +1,4 @@
--- The rows of specs/Refusals.antt, computed: for the reader, so that each number of document 01 is seen to be answered for its bytes and at its place.
+-- The rows of specs/Refusals.antt and the calls of specs/ScanExample.antt, computed: for the reader, so that each number of document 01 is seen to be answered for its bytes and at its place.
 use mathlib.Core.Path.{refl}
 use Rattle.words.specs.Word.{number, bytes}
 use Rattle.kind.specs.Kind.{isKind, isEdge, hasAbort, hasTimeLimit, hasTimeOut, isContinuous}
@@ -30,10 +30,11 @@ use Rattle.engine.specs.Inputs.{inputsOf}
 use Rattle.engine.specs.Serve.{callIn, served, servedTo}
 use Rattle.engine.specs.Fresh.{freshOf}
 use Rattle.engine.specs.Scan.{scanBlocks, scanOf}
-use Rattle.engine.specs.Refusals.{lent, freshRows, stateRows, frameRows, lentRows, EngineRefusals}
+use Rattle.engine.specs.Refusals.{input, freshRows, stateRows, frameRows, bufferRows, EngineRefusals}
+use Rattle.engine.specs.ScanExample.{state, first, second, damaged, ScanExample}
 
-pub engine-refusals : EngineRefusals
-unfolding answersDue answersMade image lent freshRows stateRows frameRows lentRows
+computed : EngineRefusals × ScanExample
+unfolding answersDue answersMade image input freshRows stateRows frameRows bufferRows state first second damaged
     freshOf scanOf scanBlocks verifyOf stateSound frameForm servedTo served callIn inputsOf
     checkOf verdictOf headerCheck walked walkIn unmet recordsCheck recordsFrom recordCheck tagAmong tagForm tagText tagChar padded
     spaces sameBytes sparesCheck sparesFrom allZero blocksIn blockIn positionFrom
@@ -41,4 +42,13 @@ unfolding answersDue answersMade image lent freshRows stateRows frameRows lentRo
     sound zeroed flagsFit codeSound requestSound stepSound timesSound entryFits piecesFit
     callOf callWithin rule dormant executing judge usePieces ended aborting resetting tick since past pastLimit pastTimeOut
     isKind isEdge hasAbort hasTimeLimit hasTimeOut isContinuous
-engine-refusals = record { fresh = refl; states = refl; frames = refl; buffers = refl }
+computed = (
+  record { fresh = refl; states = refl; frames = refl; buffers = refl },
+  record { accepted = refl; refused = refl; freshRefused = refl },
+)
+
+pub engine-refusals : EngineRefusals
+engine-refusals = computed .0
+
+pub scan-example : ScanExample
+scan-example = computed .1

@@ -7,3 +7,4 @@ pub mod Fresh
 pub mod Scan
 pub mod ScanAccepted
 pub mod Refusals
+pub mod ScanExample

@@ -6,22 +6,27 @@ use lib.ListN.{set, take, replicate}
 use Rattle.table.specs.Place.{Answer, value, refusal}
 use Rattle.table.specs.Check.{checkedAnswer}
 use Rattle.table.specs.Refusals.{Row, _gives_, AnswersAll, image}
+use Rattle.block.specs.Record.{Executing, Done, Error, Aborting, Aborted, Resetting, TimedOut}
 use Rattle.layout.specs.Buffer.{recordLength, entryLength, reportLength, eventLength}
+use Rattle.layout.specs.RecordLayout.{recordOffset}
+use Rattle.layout.specs.EntryLayout.{entryOffset, pieceOffset}
 use Rattle.engine.specs.Fresh.{freshOf}
 use Rattle.engine.specs.Scan.{scanOf, scanAnswer}
 
--- what a scan is given beside the table
-pub record Lent : Type 0 where
+-- what a scan is given
+pub record ScanInput : Type 0 where
+  pub image : List ℕ
   pub state : List ℕ
   pub frame : List ℕ
   pub report : List ℕ
   pub journal : List ℕ
 
--- Over the two blocks of `image`, position 1 of kind 7 (ETrigATo) and position 2 of kind 9 (LCon): a fresh state, a frame of zeros, and a report and
--- a journal of the least length. Position 2 is wired to position 1's done, inverted, so that it starts where it is Dormant and position 1 is not Done: one event.
-unfoldable pub lent : Lent
-lent =
+-- The two blocks of `image` are of kind 7 (ETrigATo) and of kind 9 (LCon), whose start is wired to the done flag of the first, inverted: it starts where
+-- it is Dormant and the first is not Done. A fresh state, a frame of zeros, and a report and a journal of the least length: one event.
+unfoldable pub input : ScanInput
+input =
     record {
+      image = image;
       state = replicate (2 * recordLength) 0;
       frame = replicate (2 * entryLength) 0;
       report = replicate (2 * reportLength) 0;
@@ -29,24 +34,35 @@ lent =
     }
 
 -- the same with another state, frame, report or journal
-abbrev state : List ℕ → Lent
-state s = record { state = s; frame = lent .frame; report = lent .report; journal = lent .journal }
+abbrev withState : List ℕ → ScanInput
+withState s = record { image = image; state = s; frame = input .frame; report = input .report; journal = input .journal }
 
-abbrev frame : List ℕ → Lent
-frame f = record { state = lent .state; frame = f; report = lent .report; journal = lent .journal }
+abbrev withFrame : List ℕ → ScanInput
+withFrame f = record { image = image; state = input .state; frame = f; report = input .report; journal = input .journal }
 
-abbrev report : List ℕ → Lent
-report r = record { state = lent .state; frame = lent .frame; report = r; journal = lent .journal }
+abbrev withReport : List ℕ → ScanInput
+withReport r = record { image = image; state = input .state; frame = input .frame; report = r; journal = input .journal }
 
-abbrev journal : List ℕ → Lent
-journal j = record { state = lent .state; frame = lent .frame; report = lent .report; journal = j }
+abbrev withJournal : List ℕ → ScanInput
+withJournal j = record { image = image; state = input .state; frame = input .frame; report = input .report; journal = j }
 
--- one byte of the state or of the frame changed, and several of the state; `second` and `secondEntry` are where position 2 begins
-abbrev inState : ℕ → ℕ → Lent
-inState i b = state (set (lent .state) i b)
+-- the same tables with kinds 1 (ETrig), which has no abort wire, and 13 (LConC)
+abbrev plainAndContinuous : List ℕ → ScanInput
+plainAndContinuous s =
+    record {
+      image = set (set (set (set image 20 1) 24 0) 25 0) 4 13;
+      state = s;
+      frame = input .frame;
+      report = input .report;
+      journal = input .journal;
+    }
 
-abbrev inFrame : ℕ → ℕ → Lent
-inFrame i b = frame (set (lent .frame) i b)
+-- one byte of the state or of the frame changed; `second` and `secondEntry` are where position 2 begins
+abbrev inState : ℕ → ℕ → ScanInput
+inState i b = withState (set (input .state) i b)
+
+abbrev inFrame : ℕ → ℕ → ScanInput
+inFrame i b = withFrame (set (input .frame) i b)
 
 abbrev second : ℕ
 second = recordLength
@@ -54,13 +70,32 @@ second = recordLength
 abbrev secondEntry : ℕ
 secondEntry = entryLength
 
--- a state whose record at a place has this step and these flags
-abbrev shows : ℕ → ℕ → ℕ → List ℕ
-shows at step flags = set (set (lent .state) at step) (at + 1) flags
+-- "1 flags (bits 0-3 busy, done, error, aborted)"
+abbrev busy : ℕ
+busy = 1
 
--- a frame whose entry at a place has one piece, of this reply
+abbrev done : ℕ
+done = 2
+
+abbrev error : ℕ
+error = 4
+
+abbrev aborted : ℕ
+aborted = 8
+
+-- a state whose record that begins at `at` has this step and these flags; the same with a code, and with a request
+abbrev record-of : ℕ → ℕ → ℕ → List ℕ
+record-of at step flags = set (set (input .state) at step) (at + recordOffset .flags) flags
+
+abbrev coded : ℕ → ℕ → ℕ → ℕ → List ℕ
+coded at step flags code = set (record-of at step flags) (at + recordOffset .code) code
+
+abbrev asked : ℕ → ℕ → ℕ → ℕ → List ℕ
+asked at step flags request = set (record-of at step flags) (at + recordOffset .request) request
+
+-- a frame whose entry that begins at `at` has one piece, of this reply
 abbrev piece : ℕ → ℕ → List ℕ
-piece at reply = set (set (lent .frame) (at + 1) 1) (at + 24) reply
+piece at reply = set (set (input .frame) (at + entryOffset .count) 1) (at + pieceOffset 0) reply
 
 unfoldable pub freshRows : List (Row (List ℕ))
 freshRows =
@@ -71,122 +106,139 @@ freshRows =
     ∷ replicate (2 * recordLength + 1) 0 gives refusal 20 0
     ∷ []
 
-unfoldable pub stateRows : List (Row Lent)
+unfoldable pub stateRows : List (Row ScanInput)
 stateRows =
-    lent gives value 1
+    input gives value 1
     -- 20: length not 32 × blocks
-    ∷ state [] gives refusal 20 0
-    ∷ state (take recordLength (lent .state)) gives refusal 20 0
-    ∷ state (lent .state ++ (0 ∷ [])) gives refusal 20 0
+    ∷ withState [] gives refusal 20 0
+    ∷ withState (take recordLength (input .state)) gives refusal 20 0
+    ∷ withState (input .state ++ (0 ∷ [])) gives refusal 20 0
     -- 21: unsound; first position. Dormant is all zero, its job and reading too; step is at most 6
-    ∷ inState 4 1 gives refusal 21 1
-    ∷ inState 20 1 gives refusal 21 1
-    ∷ inState (second + 31) 1 gives refusal 21 2
+    ∷ inState (recordOffset .job) 1 gives refusal 21 1
+    ∷ inState (recordOffset .last) 1 gives refusal 21 1
+    ∷ inState (second + recordOffset .elapsed + 7) 1 gives refusal 21 2
     ∷ inState second 7 gives refusal 21 2
-    -- Executing has busy only, no request and no code; the unnamed bytes and bits are zero
-    ∷ state (shows 0 1 1) gives value 1
-    ∷ state (shows 0 1 0) gives refusal 21 1
-    ∷ state (shows 0 1 3) gives refusal 21 1
-    ∷ state (shows 0 1 17) gives refusal 21 1
-    ∷ state (set (shows 0 1 1) 2 1) gives refusal 21 1
-    ∷ state (set (shows 0 1 1) 8 5) gives refusal 21 1
-    ∷ state (set (shows 0 1 1) 3 1) gives refusal 21 1
-    ∷ state (set (shows 0 1 1) 10 1) gives refusal 21 1
-    ∷ state (set (shows 0 1 1) 11 1) gives refusal 21 1
+    -- Executing has busy only, no request and no code; the unnamed bits and bytes are zero
+    ∷ withState (record-of 0 Executing busy) gives value 1
+    ∷ withState (record-of 0 Executing 0) gives refusal 21 1
+    ∷ withState (record-of 0 Executing (busy + done)) gives refusal 21 1
+    ∷ withState (record-of 0 Executing (busy + 16)) gives refusal 21 1
+    ∷ withState (asked 0 Executing busy 1) gives refusal 21 1
+    ∷ withState (coded 0 Executing busy 5) gives refusal 21 1
+    ∷ withState (set (record-of 0 Executing busy) 3 1) gives refusal 21 1
+    ∷ withState (set (record-of 0 Executing busy) 10 1) gives refusal 21 1
+    ∷ withState (set (record-of 0 Executing busy) 11 1) gives refusal 21 1
+    -- Aborting too, on kinds 5 to 14
+    ∷ withState (record-of 0 Aborting busy) gives value 1
+    ∷ withState (asked 0 Aborting busy 1) gives refusal 21 1
+    ∷ plainAndContinuous (record-of second Aborting busy) gives value 0
+    ∷ plainAndContinuous (record-of 0 Aborting busy) gives refusal 21 1
     -- Error has error only, and a code; 1 only for To kinds
-    ∷ state (set (shows 0 3 4) 8 1) gives value 1
-    ∷ state (shows 0 3 4) gives refusal 21 1
-    ∷ state (set (shows second 3 4) (second + 8) 2) gives value 0
-    ∷ state (set (shows second 3 4) (second + 8) 1) gives refusal 21 2
-    -- Done has done only, and on a level kind no request, which is at most 1
-    ∷ state (set (shows 0 2 2) 2 1) gives value 0
-    ∷ state (set (shows 0 2 2) 2 2) gives refusal 21 1
-    ∷ state (shows second 2 2) gives value 0
-    ∷ state (set (shows second 2 2) (second + 2) 1) gives refusal 21 2
-    -- Aborted is for kinds 5 to 8; Resetting has one flag, busy only on a level kind
-    ∷ state (shows 0 5 8) gives value 1
-    ∷ state (shows second 5 8) gives refusal 21 2
-    ∷ state (shows second 6 1) gives value 0
-    ∷ state (shows 0 6 1) gives refusal 21 1
-    ∷ state (shows second 6 8) gives refusal 21 2
+    ∷ withState (coded 0 Error error TimedOut) gives value 1
+    ∷ withState (record-of 0 Error error) gives refusal 21 1
+    ∷ withState (coded 0 Error (error + busy) 5) gives refusal 21 1
+    ∷ withState (coded second Error error 2) gives value 0
+    ∷ withState (coded second Error error TimedOut) gives refusal 21 2
+    -- Done has done only, and on a level kind no request, which is at most 1; not on kinds 13 and 14
+    ∷ withState (asked 0 Done done 1) gives value 0
+    ∷ withState (asked 0 Done done 2) gives refusal 21 1
+    ∷ withState (record-of 0 Done (done + aborted)) gives refusal 21 1
+    ∷ withState (record-of second Done done) gives value 0
+    ∷ withState (asked second Done done 1) gives refusal 21 2
+    ∷ plainAndContinuous (record-of second Done done) gives refusal 21 2
+    -- Aborted has aborted only, on kinds 5 to 8
+    ∷ withState (record-of 0 Aborted aborted) gives value 1
+    ∷ withState (record-of 0 Aborted busy) gives refusal 21 1
+    ∷ withState (record-of second Aborted aborted) gives refusal 21 2
+    ∷ plainAndContinuous (record-of 0 Aborted aborted) gives refusal 21 1
+    -- Resetting has one of done, error, aborted, or on a level kind busy, each on the kinds that show it
+    ∷ withState (asked 0 Resetting done 1) gives value 0
+    ∷ withState (coded 0 Resetting error 5) gives value 1
+    ∷ withState (record-of 0 Resetting aborted) gives value 1
+    ∷ withState (record-of 0 Resetting 0) gives refusal 21 1
+    ∷ withState (record-of 0 Resetting busy) gives refusal 21 1
+    ∷ withState (record-of second Resetting busy) gives value 0
+    ∷ withState (record-of second Resetting aborted) gives refusal 21 2
+    ∷ plainAndContinuous (record-of second Resetting done) gives refusal 21 2
     -- elapsed is at most 4,294,967,296; the stored time limit is an edge TI kind's, the stored time-out an edge To kind's
-    ∷ state (set (shows 0 1 1) 28 1) gives value 1
-    ∷ state (set (set (shows 0 1 1) 28 1) 24 1) gives refusal 21 1
-    ∷ state (set (shows 0 1 1) 16 9) gives value 1
-    ∷ state (set (shows 0 1 1) 12 9) gives refusal 21 1
-    ∷ state (set (shows second 6 1) (second + 16) 9) gives refusal 21 2
+    ∷ withState (set (record-of 0 Executing busy) (recordOffset .elapsed + 4) 1) gives value 1
+    ∷ withState (set (set (record-of 0 Executing busy) (recordOffset .elapsed + 4) 1) (recordOffset .elapsed) 1) gives refusal 21 1
+    ∷ withState (set (record-of 0 Executing busy) (recordOffset .timeout) 9) gives value 1
+    ∷ withState (set (record-of 0 Executing busy) (recordOffset .limit) 9) gives refusal 21 1
+    ∷ withState (set (record-of second Resetting busy) (second + recordOffset .timeout) 9) gives refusal 21 2
     -- the first position
-    ∷ state (set (set (lent .state) 4 1) (second + 4) 1) gives refusal 21 1
+    ∷ withState (set (set (input .state) (recordOffset .job) 1) (second + recordOffset .job) 1) gives refusal 21 1
     ∷ []
 
-unfoldable pub frameRows : List (Row Lent)
+unfoldable pub frameRows : List (Row ScanInput)
 frameRows =
     -- 30: length not 56 × blocks
-    frame [] gives refusal 30 0
-    ∷ frame (take entryLength (lent .frame)) gives refusal 30 0
-    ∷ frame (lent .frame ++ (0 ∷ [])) gives refusal 30 0
+    withFrame [] gives refusal 30 0
+    ∷ withFrame (take entryLength (input .frame)) gives refusal 30 0
+    ∷ withFrame (input .frame ++ (0 ∷ [])) gives refusal 30 0
     -- 31: an entry not as above; first position. Inputs, piece count, replies, the reset's never 2
-    ∷ inFrame 0 2 gives value 1
-    ∷ inFrame 0 4 gives refusal 31 1
-    ∷ inFrame 1 4 gives value 1
-    ∷ inFrame (secondEntry + 1) 5 gives refusal 31 2
-    ∷ inFrame 2 1 gives value 1
-    ∷ inFrame 2 3 gives refusal 31 1
-    ∷ inFrame 3 1 gives value 1
-    ∷ inFrame (secondEntry + 3) 2 gives refusal 31 2
+    ∷ inFrame (entryOffset .inputs) 2 gives value 1
+    ∷ inFrame (entryOffset .inputs) 4 gives refusal 31 1
+    ∷ inFrame (entryOffset .count) 4 gives value 1
+    ∷ inFrame (secondEntry + entryOffset .count) 5 gives refusal 31 2
+    ∷ inFrame (entryOffset .abortReply) 1 gives value 1
+    ∷ inFrame (entryOffset .abortReply) 3 gives refusal 31 1
+    ∷ inFrame (entryOffset .resetReply) 1 gives value 1
+    ∷ inFrame (secondEntry + entryOffset .resetReply) 2 gives refusal 31 2
     -- a code is 2 to 65,535 with reply 2, else 0
-    ∷ inFrame 2 2 gives refusal 31 1
-    ∷ frame (set (set (lent .frame) 2 2) 4 1) gives refusal 31 1
-    ∷ frame (set (set (lent .frame) 2 2) 4 2) gives value 1
-    ∷ inFrame 5 1 gives refusal 31 1
+    ∷ inFrame (entryOffset .abortReply) 2 gives refusal 31 1
+    ∷ withFrame (set (set (input .frame) (entryOffset .abortReply) 2) (entryOffset .abortCode) 1) gives refusal 31 1
+    ∷ withFrame (set (set (input .frame) (entryOffset .abortReply) 2) (entryOffset .abortCode) 2) gives value 1
+    ∷ inFrame (entryOffset .abortCode + 1) 1 gives refusal 31 1
     -- the unnamed bytes are zero
     ∷ inFrame 6 1 gives refusal 31 1
     ∷ inFrame (secondEntry + 7) 1 gives refusal 31 2
     -- job, limit, time-out and clock are free
-    ∷ inFrame 8 255 gives value 1
-    ∷ inFrame 12 255 gives value 1
-    ∷ inFrame 16 255 gives value 1
-    ∷ inFrame 20 255 gives value 1
+    ∷ inFrame (entryOffset .job) 255 gives value 1
+    ∷ inFrame (entryOffset .limit) 255 gives value 1
+    ∷ inFrame (entryOffset .timeout) 255 gives value 1
+    ∷ inFrame (entryOffset .clock) 255 gives value 1
     -- pieces, also those that a kind never uses; those past n are zero
-    ∷ frame (piece 0 1) gives value 1
-    ∷ frame (piece 0 3) gives refusal 31 1
-    ∷ frame (piece 0 2) gives refusal 31 1
-    ∷ frame (set (piece 0 2) 27 1) gives value 1
-    ∷ frame (set (piece 0 1) 26 2) gives refusal 31 1
-    ∷ frame (set (piece secondEntry 1) (secondEntry + 25) 1) gives refusal 31 2
-    ∷ frame (set (piece 0 1) 28 255) gives value 1
-    ∷ frame (set (piece 0 1) 36 1) gives refusal 31 1
-    ∷ inFrame (secondEntry + 55) 1 gives refusal 31 2
+    ∷ withFrame (piece 0 1) gives value 1
+    ∷ withFrame (piece 0 3) gives refusal 31 1
+    ∷ withFrame (piece 0 2) gives refusal 31 1
+    ∷ withFrame (set (piece 0 2) (pieceOffset 0 + 3) 1) gives value 1
+    ∷ withFrame (set (piece 0 1) (pieceOffset 0 + 2) 2) gives refusal 31 1
+    ∷ withFrame (set (piece secondEntry 1) (secondEntry + pieceOffset 0 + 1) 1) gives refusal 31 2
+    ∷ withFrame (set (piece 0 1) (pieceOffset 0 + 4) 255) gives value 1
+    ∷ withFrame (set (piece 0 1) (pieceOffset 1 + 4) 1) gives refusal 31 1
+    ∷ inFrame (secondEntry + pieceOffset 3 + 7) 1 gives refusal 31 2
     ∷ []
 
-unfoldable pub lentRows : List (Row Lent)
-lentRows =
+unfoldable pub bufferRows : List (Row ScanInput)
+bufferRows =
     -- 40: length not 12 × blocks
-    report [] gives refusal 40 0
-    ∷ report (take reportLength (lent .report)) gives refusal 40 0
-    ∷ report (lent .report ++ (0 ∷ [])) gives refusal 40 0
+    withReport [] gives refusal 40 0
+    ∷ withReport (take reportLength (input .report)) gives refusal 40 0
+    ∷ withReport (input .report ++ (0 ∷ [])) gives refusal 40 0
     -- 41: length under 16 × blocks
-    ∷ journal [] gives refusal 41 0
-    ∷ journal (replicate (4 * eventLength - 1) 0) gives refusal 41 0
-    ∷ journal (lent .journal ++ (0 ∷ [])) gives value 1
-    -- the first that fails is given: 20, 21, 30, 31, 40, 41
-    ∷ record { state = []; frame = []; report = []; journal = [] } gives refusal 20 0
-    ∷ record { state = set (lent .state) (second + 4) 1; frame = []; report = []; journal = [] } gives refusal 21 2
-    ∷ record { state = lent .state; frame = []; report = []; journal = [] } gives refusal 30 0
-    ∷ record { state = lent .state; frame = set (lent .frame) 6 1; report = []; journal = [] } gives refusal 31 1
-    ∷ record { state = lent .state; frame = lent .frame; report = []; journal = [] } gives refusal 40 0
+    ∷ withJournal [] gives refusal 41 0
+    ∷ withJournal (replicate (4 * eventLength - 1) 0) gives refusal 41 0
+    ∷ withJournal (input .journal ++ (0 ∷ [])) gives value 1
+    -- the first that fails is given: the table's, then 20, 21, 30, 31, 40, 41
+    ∷ record { image = []; state = []; frame = []; report = []; journal = [] } gives refusal 1 0
+    ∷ record { image = image; state = []; frame = []; report = []; journal = [] } gives refusal 20 0
+    ∷ record { image = image; state = set (input .state) (second + recordOffset .job) 1; frame = []; report = []; journal = [] } gives refusal 21 2
+    ∷ record { image = image; state = input .state; frame = []; report = []; journal = [] } gives refusal 30 0
+    ∷ record { image = image; state = input .state; frame = set (input .frame) 6 1; report = []; journal = [] } gives refusal 31 1
+    ∷ record { image = image; state = input .state; frame = input .frame; report = []; journal = [] } gives refusal 40 0
     ∷ []
 
 -- what fresh and the scan answer, in document 01's numbers
 abbrev pub freshAnswer : List ℕ → Answer
 freshAnswer buffer = checkedAnswer (freshOf image buffer .answer)
 
-abbrev pub scanAnswerOf : Lent → Answer
-scanAnswerOf l = scanAnswer (scanOf image (l .state) (record { frame = l .frame }) (l .report) (l .journal) .answer)
+abbrev pub scanAnswerOf : ScanInput → Answer
+scanAnswerOf g = scanAnswer (scanOf (g .image) (g .state) (record { frame = g .frame }) (g .report) (g .journal) .answer)
 
 -- theorem engine-refusals
 pub record EngineRefusals : Type 0 where
   pub fresh : AnswersAll freshAnswer freshRows
   pub states : AnswersAll scanAnswerOf stateRows
   pub frames : AnswersAll scanAnswerOf frameRows
-  pub buffers : AnswersAll scanAnswerOf lentRows
+  pub buffers : AnswersAll scanAnswerOf bufferRows

@@ -36,11 +36,11 @@ use Rattle.run.specs.Scans.{flagsSeen, stateFrom, journalFrom, historyFr
 use Rattle.run.specs.ExampleParts.{answersOf, passesOf, usedOf, startsOf}
 use Rattle.run.specs.RunExamples.{image, buffer, starts, isDone, damaged, fails, rests, isLate, isAborted, works, scans, running, RunExample}
 use Rattle.run.specs.WireExamples.{camBytes, timesOut, restarts, WireExample}
-use Rattle.run.specs.WireExamples.{image as wireImage, buffer as wireBuffer, starts as wireStarts, works as wireWorks, scans as wireScans}
+use Rattle.run.specs.WireExamples.{image as wireImage, buffer as wireBuffer, starts as wireStarts, works as wireWorks, running as wireRunning, scans as wireScans}
 
 computed : RunExample × WireExample
 unfolding image buffer starts isDone damaged fails rests isLate isAborted works scans running answersOf passesOf usedOf startsOf
-    wireImage wireBuffer camBytes wireStarts wireWorks timesOut restarts wireScans
+    wireImage wireBuffer camBytes wireStarts wireWorks timesOut restarts wireRunning wireScans
     freshOf stateFrom journalFrom historyFrom scanOf scanBlocks verifyOf stateSound frameForm servedTo served callIn inputsOf flagsSeen
     checkOf verdictOf headerCheck walked walkIn unmet recordsCheck recordsFrom recordCheck tagAmong tagForm tagText tagChar padded
     spaces sameBytes sparesCheck sparesFrom allZero blocksIn blockIn positionFrom

@@ -9,7 +9,7 @@ use Rattle.table.specs.Place.{value, refusal}
 use Rattle.table.specs.Check.{checkedAnswer}
 use Rattle.layout.specs.Buffer.{recordLength}
 use Rattle.layout.specs.EntryLayout.{encodeEntry}
-use Rattle.block.specs.Record.{Executing}
+use Rattle.block.specs.Record.{Executing, TimedOut}
 use Rattle.block.specs.Event.{Start, DoneEvent, Failed, AbortedEvent, Withdrawn}
 use Rattle.block.specs.History.{timerOf, timeOutInForce}
 use Rattle.block.specs.declared.entry.Entry.{Entry}
@@ -83,7 +83,7 @@ pub record RunExample : Type 0 where
       ≡ value 2 ∷ value 2 ∷ refusal 31 2 ∷ value 2 ∷ value 0 ∷ value 2 ∷ value 0 ∷ value 2 ∷ []
   pub journal : journalOf image buffer scans
       ≡ at 1 Start 0 7 ∷ at 2 Start 0 1 ∷ at 1 DoneEvent 0 7 ∷ at 2 Withdrawn 0 1
-      ∷ at 1 Start 0 8 ∷ at 1 Failed 5 8 ∷ at 1 Start 0 9 ∷ at 1 Failed 1 9 ∷ at 1 Start 0 10 ∷ at 1 AbortedEvent 0 10 ∷ []
+      ∷ at 1 Start 0 8 ∷ at 1 Failed 5 8 ∷ at 1 Start 0 9 ∷ at 1 Failed TimedOut 9 ∷ at 1 Start 0 10 ∷ at 1 AbortedEvent 0 10 ∷ []
   pub passes : passesOf (historyOf image buffer 0 scans) ≡ 2 ∷ 2 ∷ 5 ∷ 2 ∷ 3 ∷ 2 ∷ 4 ∷ []
   -- FAN reads PUMP's flag of the same scan
   pub wired : startsOf (historyOf image buffer 1 scans) ≡ true ∷ false ∷ false ∷ false ∷ false ∷ false ∷ false ∷ []

@@ -9,7 +9,8 @@ use Rattle.table.specs.Place.{value}
 use Rattle.table.specs.Check.{checkedAnswer}
 use Rattle.layout.specs.Buffer.{recordLength, eventLength}
 use Rattle.layout.specs.EntryLayout.{encodeEntry}
-use Rattle.block.specs.Event.{Start, DoneEvent, Failed, Withdrawn}
+use Rattle.block.specs.Record.{TimedOut}
+use Rattle.block.specs.Event.{Start, DoneEvent, Failed}
 use Rattle.block.specs.declared.entry.Entry.{Entry}
 use Rattle.engine.specs.Fresh.{freshOf}
 use Rattle.run.specs.Scans.{Scans, none, _andThen_, Given, stateAfter, resultOf, journalOf, historyOf}
@@ -60,51 +61,57 @@ starts = scan camBytes (idle 20) (idle 30) (idle 40)
 unfoldable pub works : Given
 works = scan (encodeEntry (entryOf true true 99 5 5 1060 (working 1070 ∷ working 1080 ∷ working 1090 ∷ []))) (idle 21) (idle 31) (idle 41)
 
--- CAM is past its time-out at the first piece, and shows its Error with start false; ALARM starts, and LAMP, whose elapsed reaches its greatest
+-- CAM is past its time-out at the first piece, and shows its Error with start false; ALARM starts and fails with code 513; LAMP starts, and its
+-- elapsed reaches its greatest
 unfoldable pub timesOut : Given
 timesOut =
-    scan (encodeEntry (entryOf false false 99 0 0 1095 (working 1101 ∷ complete 1102 ∷ []))) (idle 22) (idle 32)
+    scan (encodeEntry (entryOf false false 99 0 0 1095 (working 1101 ∷ complete 1102 ∷ []))) (idle 22) (entryOf false false 32 0 0 0 (failing 513 0 ∷ []))
     (entryOf false false 42 0 0 0 (working 2000000000 ∷ working 4000000000 ∷ working 1000 ∷ []))
 
 -- CAM is reset by its request and starts again, and its complete piece is the last one used; GATE starts, uses one piece of two and ignores its
--- abort bit; ALARM is withdrawn
+-- abort bit; ALARM, whose error was shown with start true, is reset
 unfoldable pub restarts : Given
 restarts =
     scan (encodeEntry (entryOf true false 8 50 100 1105 (complete 1110 ∷ failing 5 1111 ∷ [])))
     (entryOf false true 23 0 0 5 (working 6 ∷ complete 7 ∷ [])) (idle 33) (entryOf false false 43 0 0 1001 [])
 
-unfoldable pub scans : Scans
-scans = none andThen starts andThen works andThen timesOut
+-- before CAM times out, and all four
+unfoldable pub running : Scans
+running = none andThen starts andThen works
 
--- theorem wire-example, proofs/WireExamples.antt
+unfoldable pub scans : Scans
+scans = running andThen timesOut andThen restarts
+
+-- theorem wire-example, proofs/RunExamples.antt
 pub record WireExample : Type 0 where
   pub made : checkedAnswer (freshOf image buffer .answer) ≡ value 4
   pub entry : encodeEntry cam ≡ camBytes
-  pub answers : answersOf image buffer (scans andThen restarts) ≡ value 1 ∷ value 0 ∷ value 3 ∷ value 4 ∷ []
-  pub journal : journalOf image buffer (scans andThen restarts)
-      ≡ at 1 Start 0 16909060 ∷ at 1 Failed 1 16909060 ∷ at 3 Start 0 32 ∷ at 4 Start 0 42
-      ∷ at 1 Start 0 8 ∷ at 1 DoneEvent 0 8 ∷ at 2 Start 0 23 ∷ at 3 Withdrawn 0 32 ∷ []
+  pub answers : answersOf image buffer scans ≡ value 1 ∷ value 0 ∷ value 4 ∷ value 3 ∷ []
+  pub journal : journalOf image buffer scans
+      ≡ at 1 Start 0 16909060 ∷ at 1 Failed TimedOut 16909060 ∷ at 3 Start 0 32 ∷ at 3 Failed 513 32 ∷ at 4 Start 0 42
+      ∷ at 1 Start 0 8 ∷ at 1 DoneEvent 0 8 ∷ at 2 Start 0 23 ∷ []
   -- CAM
-  pub passes : passesOf (historyOf image buffer 0 (scans andThen restarts)) ≡ 2 ∷ 1 ∷ 2 ∷ 5 ∷ []
-  pub pieces : usedOf (historyOf image buffer 0 (scans andThen restarts)) ≡ 2 ∷ 3 ∷ 1 ∷ 1 ∷ []
+  pub passes : passesOf (historyOf image buffer 0 scans) ≡ 2 ∷ 1 ∷ 2 ∷ 5 ∷ []
+  pub pieces : usedOf (historyOf image buffer 0 scans) ≡ 2 ∷ 3 ∷ 1 ∷ 1 ∷ []
   -- GATE reads done, ALARM error, LAMP busy inverted
-  pub gate : startsOf (historyOf image buffer 1 (scans andThen restarts)) ≡ false ∷ false ∷ false ∷ true ∷ []
-  pub alarm : startsOf (historyOf image buffer 2 (scans andThen restarts)) ≡ false ∷ false ∷ true ∷ false ∷ []
-  pub lamp : startsOf (historyOf image buffer 3 (scans andThen restarts)) ≡ false ∷ false ∷ true ∷ true ∷ []
-  -- the last scan's report and events, and the state that it leaves
-  pub report : resultOf image buffer scans restarts .report
-      ≡ 2 ∷ 1 ∷ 5 ∷ 2 ∷ 0 ∷ 0 ∷ 0 ∷ 0 ∷ 8 ∷ 0 ∷ 0 ∷ 0
-      ∷ 1 ∷ 1 ∷ 2 ∷ 1 ∷ 0 ∷ 0 ∷ 0 ∷ 0 ∷ 23 ∷ 0 ∷ 0 ∷ 0
-      ∷ 0 ∷ 0 ∷ 3 ∷ 0 ∷ 0 ∷ 0 ∷ 0 ∷ 0 ∷ 0 ∷ 0 ∷ 0 ∷ 0
-      ∷ 1 ∷ 0 ∷ 1 ∷ 1 ∷ 0 ∷ 0 ∷ 0 ∷ 0 ∷ 42 ∷ 0 ∷ 0 ∷ 0
+  pub gate : startsOf (historyOf image buffer 1 scans) ≡ false ∷ false ∷ false ∷ true ∷ []
+  pub alarm : startsOf (historyOf image buffer 2 scans) ≡ false ∷ false ∷ true ∷ false ∷ []
+  pub lamp : startsOf (historyOf image buffer 3 scans) ≡ false ∷ false ∷ true ∷ true ∷ []
+  -- the third scan's report and events
+  pub report : resultOf image buffer running timesOut .report
+      ≡ 4 ∷ 1 ∷ 2 ∷ 3 ∷ 1 ∷ 0 ∷ 0 ∷ 0 ∷ 4 ∷ 3 ∷ 2 ∷ 1
+      ∷ 0 ∷ 0 ∷ 1 ∷ 0 ∷ 0 ∷ 0 ∷ 0 ∷ 0 ∷ 0 ∷ 0 ∷ 0 ∷ 0
+      ∷ 4 ∷ 1 ∷ 3 ∷ 3 ∷ 1 ∷ 2 ∷ 0 ∷ 0 ∷ 32 ∷ 0 ∷ 0 ∷ 0
+      ∷ 1 ∷ 3 ∷ 2 ∷ 1 ∷ 0 ∷ 0 ∷ 0 ∷ 0 ∷ 42 ∷ 0 ∷ 0 ∷ 0
       ∷ []
-  pub events : resultOf image buffer scans restarts .journal
-      ≡ 1 ∷ 1 ∷ 0 ∷ 0 ∷ 8 ∷ 0 ∷ 0 ∷ 0
-      ∷ 2 ∷ 1 ∷ 0 ∷ 0 ∷ 8 ∷ 0 ∷ 0 ∷ 0
-      ∷ 1 ∷ 2 ∷ 0 ∷ 0 ∷ 23 ∷ 0 ∷ 0 ∷ 0
-      ∷ 5 ∷ 3 ∷ 0 ∷ 0 ∷ 32 ∷ 0 ∷ 0 ∷ 0
+  pub events : resultOf image buffer running timesOut .journal
+      ≡ 3 ∷ 1 ∷ 1 ∷ 0 ∷ 4 ∷ 3 ∷ 2 ∷ 1
+      ∷ 1 ∷ 3 ∷ 0 ∷ 0 ∷ 32 ∷ 0 ∷ 0 ∷ 0
+      ∷ 3 ∷ 3 ∷ 1 ∷ 2 ∷ 32 ∷ 0 ∷ 0 ∷ 0
+      ∷ 1 ∷ 4 ∷ 0 ∷ 0 ∷ 42 ∷ 0 ∷ 0 ∷ 0
       ∷ replicate (4 * eventLength) 255
-  pub state : stateAfter image buffer (scans andThen restarts)
+  -- the state that the last scan leaves
+  pub state : stateAfter image buffer scans
       ≡ 2 ∷ 2 ∷ 0 ∷ 0 ∷ 8 ∷ 0 ∷ 0 ∷ 0 ∷ 0 ∷ 0 ∷ 0 ∷ 0 ∷ 50 ∷ 0 ∷ 0 ∷ 0
       ∷ 100 ∷ 0 ∷ 0 ∷ 0 ∷ 86 ∷ 4 ∷ 0 ∷ 0 ∷ 5 ∷ 0 ∷ 0 ∷ 0 ∷ 0 ∷ 0 ∷ 0 ∷ 0
       ∷ 1 ∷ 1 ∷ 0 ∷ 0 ∷ 23 ∷ 0 ∷ 0 ∷ 0 ∷ 0 ∷ 0 ∷ 0 ∷ 0 ∷ 0 ∷ 0 ∷ 0 ∷ 0

@@ -1,0 +1,52 @@
+-- One accepted scan and two refused calls, with every byte that they leave: for the reader, and so that a wrong definition of the scan breaks a fact about
+-- bytes in this crate. Proved in proofs/Refusals.antt.
+use Prim.Native.Nat.{ℕ, _*_}
+use mathlib.Core.List.{List, [], _∷_, _++_}
+use mathlib.Core.Path.{_≡_}
+use lib.ListN.{replicate}
+use Rattle.table.specs.Refusals.{image}
+use Rattle.table.specs.declared.place.Place.the-variants.{Header, Position}
+use Rattle.table.specs.declared.check.Checked.the-variants.{Refused as FreshRefused}
+use Rattle.layout.specs.Buffer.{eventLength}
+use Rattle.engine.specs.Told.{Told}
+use Rattle.engine.specs.Fresh.{freshOf}
+use Rattle.engine.specs.Scan.{scanOf}
+use Rattle.engine.specs.declared.scan.Scanned.the-variants.{Events, Refused}
+
+-- The first block is Executing with job 5, a time-out of 100 and elapsed 3 at reading 10; the second is Executing with job 7.
+unfoldable pub state : List ℕ
+state =
+    1 ∷ 1 ∷ 0 ∷ 0 ∷ 5 ∷ 0 ∷ 0 ∷ 0 ∷ 0 ∷ 0 ∷ 0 ∷ 0 ∷ 0 ∷ 0 ∷ 0 ∷ 0
+    ∷ 100 ∷ 0 ∷ 0 ∷ 0 ∷ 10 ∷ 0 ∷ 0 ∷ 0 ∷ 3 ∷ 0 ∷ 0 ∷ 0 ∷ 0 ∷ 0 ∷ 0 ∷ 0
+    ∷ 1 ∷ 1 ∷ 0 ∷ 0 ∷ 7 ∷ replicate 27 0
+
+-- The first block's entry: start 0, job 99, clock 12, one piece, complete at 15.
+unfoldable pub first : List ℕ
+first = 0 ∷ 1 ∷ 0 ∷ 0 ∷ 0 ∷ 0 ∷ 0 ∷ 0 ∷ 99 ∷ replicate 11 0 ++ (12 ∷ 0 ∷ 0 ∷ 0 ∷ 1 ∷ 0 ∷ 0 ∷ 0 ∷ 15 ∷ replicate 27 0)
+
+-- The second block's: start bit 1, which its wire overrules, abort and reset reply complete, job 99; the same with an unnamed byte that is not zero.
+unfoldable pub second : List ℕ
+second = 1 ∷ 0 ∷ 1 ∷ 1 ∷ 0 ∷ 0 ∷ 0 ∷ 0 ∷ 99 ∷ replicate 47 0
+
+unfoldable pub damaged : List ℕ
+damaged = 1 ∷ 0 ∷ 1 ∷ 1 ∷ 0 ∷ 0 ∷ 9 ∷ 0 ∷ 99 ∷ replicate 47 0
+
+abbrev pub told : List ℕ → Told
+told entry = record { frame = first ++ entry }
+
+-- theorem scan-example
+pub record ScanExample : Type 0 where
+  -- The first is Done, in 2 passes with 1 piece, with the reset requested; so the second's start is false, and it is withdrawn and reset in 3 passes.
+  pub accepted : scanOf image state (told second) (replicate 24 255) (replicate 32 255)
+      ≡ record {
+        answer = Events 2;
+        state =
+            2 ∷ 2 ∷ 1 ∷ 0 ∷ 5 ∷ 0 ∷ 0 ∷ 0 ∷ 0 ∷ 0 ∷ 0 ∷ 0 ∷ 0 ∷ 0 ∷ 0 ∷ 0
+            ∷ 100 ∷ 0 ∷ 0 ∷ 0 ∷ 15 ∷ 0 ∷ 0 ∷ 0 ∷ 8 ∷ replicate 39 0;
+        report = 2 ∷ 1 ∷ 2 ∷ 2 ∷ 0 ∷ 0 ∷ 0 ∷ 0 ∷ 5 ∷ 0 ∷ 0 ∷ 0 ∷ 0 ∷ 0 ∷ 3 ∷ replicate 9 0;
+        journal = 2 ∷ 1 ∷ 0 ∷ 0 ∷ 5 ∷ 0 ∷ 0 ∷ 0 ∷ 5 ∷ 2 ∷ 0 ∷ 0 ∷ 7 ∷ 0 ∷ 0 ∷ 0 ∷ replicate (2 * eventLength) 255;
+      }
+  -- a refusal leaves every lent buffer untouched
+  pub refused : scanOf image state (told damaged) (replicate 24 255) (replicate 32 255)
+      ≡ record { answer = Refused 31 (Position 2); state = state; report = replicate 24 255; journal = replicate 32 255 }
+  pub freshRefused : freshOf image (replicate 63 255) ≡ record { answer = FreshRefused 20 Header; state = replicate 63 255 }
