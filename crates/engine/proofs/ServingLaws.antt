@@ -2,12 +2,13 @@
 use Prim.Native.Nat.{ℕ, zero, suc, _+_, _*_, _≤_, _<_}
 use native.Mathlib.Numerals.{add-one}
 use native.Mathlib.Omega.{arith}
-use mathlib.Core.Bool.{true}
+use mathlib.Core.Bool.{true, _&&_}
 use mathlib.Core.List.{List, [], _∷_}
 use mathlib.Core.Path.{_≡_, refl, ap, _∙_}
 use lib.Dec.{leb}
 use lib.ListN.{length}
 use borrow.Author.Tests.{leb-true}
+use Rattle.membership.proofs.Logic.{and-left}
 use Rattle.table.specs.Check.{checkOf}
 use Rattle.table.specs.Blocks.{Block, blocksOf, wiringAt}
 use Rattle.table.specs.declared.check.Checked.the-variants.{Blocks}
@@ -18,11 +19,10 @@ use Rattle.layout.specs.EventLayout.{encodeEvents}
 use Rattle.layout.proofs.BufferLaws.{put-length}
 use Rattle.layout.proofs.EntryLaws.{entry-fits}
 use Rattle.layout.proofs.EventLaws.{events-length}
-use Rattle.block.specs.Entry.{codeFits, piecesFit, entryFits}
+use Rattle.block.specs.Entry.{Complete, ErrorReply, mostPieces, codeFits, headFits, piecesFit, entryFits}
 use Rattle.block.specs.Call.{Outcome}
 use Rattle.block.specs.Sound.{sound}
 use Rattle.block.specs.declared.entry.Entry.{Entry}
-use Rattle.block.proofs.Tests.{each}
 use Rattle.engine.specs.Told.{Told}
 use Rattle.engine.specs.Serve.{Buffers, entryIn, served, servedTo}
 use Rattle.engine.specs.Callable.{Callable, Reached, HasRoom}
@@ -30,11 +30,15 @@ use Rattle.engine.specs.ScanAccepted.{StateFits, GivenFits}
 use Rattle.engine.proofs.ServedLaws.{buffersAt, outcomeAt, state-length, state-later, report-sized, events-few}
 
 -- "piece count n, 0 to 4"
-count-few : (e : Entry) → entryFits e ≡ true → e .count ≤ 4
+count-few : (e : Entry) → entryFits e ≡ true → e .count ≤ mostPieces
 unfolding entryFits
 count-few e h =
-    leb-true (e .count) 4
-    (each (leb (e .count) 4) (leb (e .«abort_reply») 2 ∷ leb (e .«reset_reply») 1 ∷ codeFits (e .«abort_reply») (e .«abort_code») ∷ piecesFit (e .count) 0 (e .pieces) ∷ []) h .0)
+    let head = and-left (headFits e) (piecesFit (e .count) 0 (e .pieces)) h in
+    let counted = leb (e .count) mostPieces in
+    let replies = leb (e .«abort_reply») ErrorReply in
+    let reset = leb (e .«reset_reply») Complete in
+    let code = codeFits (e .«abort_reply») (e .«abort_code») in
+    leb-true (e .count) mostPieces (and-left counted replies (and-left (counted && replies) reset (and-left (counted && replies && reset) code head)))
 
 -- the buffers after n blocks, of what passed checks 20 to 41
 module _ (blocks : List Block) (told : Told) (state report journal : List ℕ) (s : StateFits blocks state) (g : GivenFits blocks told report journal) where

@@ -1,5 +1,4 @@
 -- Document 01: one scan, over the buffers as they are at entry.
-use Rattle.engine.specs.Told.{Told}
 use Prim.Native.Nat.{ℕ}
 use mathlib.Core.List.{List}
 use lib.ListN.{length}
@@ -11,6 +10,7 @@ use Rattle.table.specs.declared.place.Verdict.{Verdict}
 use Rattle.table.specs.declared.place.Verdict.the-variants.{Passed, Failed}
 use Rattle.table.specs.declared.check.Checked.{Checked}
 use Rattle.table.specs.declared.check.Checked.the-variants.{Blocks as TableBlocks, Refused as TableRefused}
+use Rattle.engine.specs.Told.{Told}
 use Rattle.engine.specs.Verify.{verifyOf}
 use Rattle.engine.specs.Serve.{Buffers, servedTo}
 use Rattle.engine.specs.declared.scan.Scanned.{Scanned}
@@ -23,12 +23,12 @@ pub record ScanResult : Type 0 where
   pub report : List ℕ
   pub journal : List ℕ
 
--- the answer before any block is called: a refusal of the table, unchanged, or no event so far
+-- what the code answers where it calls no block, by the table checks: their refusal, unchanged; without one there are no events so far
 abbrev pub answerByTable : Checked → Scanned
 answerByTable (TableBlocks n) = Events 0
 answerByTable (TableRefused number place) = Refused number place
 
--- the same, by the checks below the table's
+-- the same by the checks below the table's
 abbrev pub answerByChecks : Verdict → Scanned
 answerByChecks Passed = Events 0
 answerByChecks (Failed number place) = Refused number place

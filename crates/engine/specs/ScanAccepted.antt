@@ -1,6 +1,5 @@
 -- Document 01, "Turned back": "a call that fails none does its work". Which scans are accepted, beside the run promise, which would hold of an engine
 -- that refuses every scan; and that each call of an accepted scan is a call by the rules.
-use Rattle.engine.specs.Told.{Told}
 use Prim.Native.Nat.{ℕ, _*_, _≤_, _<_}
 use mathlib.Core.Bool.{true}
 use mathlib.Core.List.{List}
@@ -15,6 +14,7 @@ use Rattle.layout.specs.RecordLayout.{soundBytes}
 use Rattle.layout.specs.EntryLayout.{entryBytes}
 use Rattle.block.specs.Call.{Whole}
 use Rattle.block.specs.declared.entry.Inputs.{Inputs}
+use Rattle.engine.specs.Told.{Told}
 use Rattle.engine.specs.Verify.{verifyOf}
 use Rattle.engine.specs.Inputs.{flagsIn, inputsOf}
 use Rattle.engine.specs.Serve.{recordIn, entryIn, callIn, servedTo}

@@ -1,5 +1,4 @@
 -- Document 01, "An accepted scan calls each block once, in chain order": one block's step over the lent buffers.
-use Rattle.engine.specs.Told.{Told}
 use Prim.Native.Nat.{ℕ, zero, suc, _+_, _*_}
 use mathlib.Core.Bool.{Bool, not, _&&_}
 use mathlib.Core.List.{List}
@@ -17,6 +16,7 @@ use Rattle.block.specs.Call.{Outcome, callOf}
 use Rattle.block.specs.declared.record.Record.{Record}
 use Rattle.block.specs.declared.entry.Inputs.{Inputs}
 use Rattle.block.specs.declared.entry.Entry.{Entry}
+use Rattle.engine.specs.Told.{Told}
 use Rattle.engine.specs.Inputs.{flagsIn, inputsOf}
 
 -- the lent buffers as they stand, and the events written so far

@@ -1,5 +1,4 @@
 -- Document 01, "Turned back": checks 20 to 41, from the top down.
-use Rattle.engine.specs.Told.{Told}
 use Prim.Native.Nat.{ℕ, suc, _*_}
 use mathlib.Core.List.{List, [], _∷_}
 use lib.Dec.{eqb, leb}
@@ -12,6 +11,7 @@ use Rattle.table.specs.declared.place.Verdict.the-variants.{Passed}
 use Rattle.layout.specs.Buffer.{recordLength, entryLength, reportLength, eventLength, part}
 use Rattle.layout.specs.RecordLayout.{soundBytes}
 use Rattle.layout.specs.EntryLayout.{entryBytes}
+use Rattle.engine.specs.Told.{Told}
 
 -- 20: "length not 32 × blocks"
 abbrev pub stateLength : List Block → List ℕ → Verdict → Verdict

@@ -12,18 +12,22 @@ use Rattle.engine.specs.Told.{Told}
 use Rattle.engine.specs.Fresh.{freshOf}
 use Rattle.engine.specs.Scan.{scanOf, scanAnswer}
 
+-- what a refusal's number weighs
+abbrev pub numberWeight : ℕ
+numberWeight = 4294967296
+
 unfoldable pub packed : Answer → ℕ
 packed (value v) = v
-packed (refusal number place) = number * 4294967296 + place
+packed (refusal number place) = number * numberWeight + place
 
 -- taken apart as a host does it: below 2^32 a value, else a refusal's number and its place, by division
 unfoldable pub unpacked : ℕ → Answer
-unpacked n = cond (ltb n 4294967296) (value n) (refusal (n / 4294967296) (n % 4294967296))
+unpacked n = cond (ltb n numberWeight) (value n) (refusal (n / numberWeight) (n % numberWeight))
 
 -- the answers that the packing keeps
 abbrev pub Packable : Answer → Type 0
-Packable (value v) = v < 4294967296
-Packable (refusal number place) = (1 ≤ number) × (number < 256) × (place < 4294967296)
+Packable (value v) = v < numberWeight
+Packable (refusal number place) = (1 ≤ number) × (number < 256) × (place < numberWeight)
 
 -- theorem unpacked-packed, proofs/PackedLaws.antt: taking the number apart gives the answer back, so that no two answers have one number
 abbrev pub UnpackedIsPacked : Type 0

@@ -11,11 +11,14 @@ use table::check::Checked;
 use table::lookup::Found;
 use table::place::Place;
 
+// What a refusal's number weighs in an answer.
+pub const NUMBER_WEIGHT: u64 = 4294967296;
+
 fn pack_refusal(number: u8, place: Place) -> u64
     ensures { λ r. ⌜ r ≡ packed (refusal number (placeNumber place)) ⌝ }
 {
     let k = table::place::place_number(place);
-    (number as u64) * 4294967296 + k as u64
+    (number as u64) * NUMBER_WEIGHT + k as u64
 }
 
 fn pack_checked(answer: Checked) -> u64

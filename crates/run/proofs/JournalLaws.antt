@@ -13,7 +13,7 @@ use Rattle.layout.proofs.EventLaws.{posted, posted-length, posted-events, poste
 use Rattle.block.specs.declared.event.Event.{Event}
 
 -- the first events stand in front
-decode-front : (n : ℕ) (p x : List ℕ) → eventLength * n ≤ length p → decodeEvents n (p ++ x) ≡ decodeEvents n p
+pub decode-front : (n : ℕ) (p x : List ℕ) → eventLength * n ≤ length p → decodeEvents n (p ++ x) ≡ decodeEvents n p
 unfolding decodeEvents
 decode-front zero p x h = refl
 decode-front (suc n) p x h =

@@ -51,7 +51,7 @@ module _ (blocks : List Block) (told : Told) (state report journal : List ℕ) w
   eventsTo n = decodeEvents (buffersAt n .events) (buffersAt n .journal)
 
   -- the journal has room for the events so far
-  journal-room : (n : ℕ) → eventLength * buffersAt n .events ≤ length (buffersAt n .journal)
+  pub journal-room : (n : ℕ) → eventLength * buffersAt n .events ≤ length (buffersAt n .journal)
   unfolding servedTo
   journal-room zero = omega arith
   journal-room (suc i) =
@@ -93,7 +93,7 @@ module _ (blocks : List Block) (told : Told) (state report journal : List ℕ) w
           (decodeRecord (laws.state-later blocks told state report journal sized k k (omega arith) (omega arith) i))
 
     -- the events of each call come after those of the calls before it
-    events-next : (i : ℕ) → i < length blocks → eventsTo (suc i) ≡ eventsTo i ++ posted (suc i) (outcomeAt i .events)
+    pub events-next : (i : ℕ) → i < length blocks → eventsTo (suc i) ≡ eventsTo i ++ posted (suc i) (outcomeAt i .events)
     events-next i l =
         rw (laws.count-next blocks told state report journal i, laws.journal-next blocks told state report journal i)
         (decode-after (buffersAt i .events) (suc i) (outcomeAt i .events) (buffersAt i .journal) (journal-room i) (outcome-fits i l .events))

@@ -27,15 +27,15 @@ use Rattle.run.specs.RunInvariant.{BlockRun, RunInvariantHolds, StateFit
 use Rattle.run.proofs.FitsLaws.{fresh-fits}
 use Rattle.engine.proofs.FreshLaws.{FreshMade, fresh-made, zeros-fresh, zeros-form}
 use Rattle.engine.proofs.ScanAccepted.{scan-accepted}
-use Rattle.run.proofs.ScanLaws.{Held, Kept, scanVerdict, resultBy, scan-is, held-by, kept-by, none-by, entries-by}
+use Rattle.run.proofs.ScanLaws.{Held, Kept, scanVerdict, resultBy, scan-is, held-by, kept-by, none-by, events-by}
 
 -- "A block's entries are the events there with its position.": of any list of scans, from any state
-pub entries-from : (image start : List ℕ) (k : ℕ) (h : Scans) → eventsAt (suc k) (journalFrom image start h) ≡ eventsOf (historyFrom image start k h)
+pub events-from : (image start : List ℕ) (k : ℕ) (h : Scans) → eventsAt (suc k) (journalFrom image start h) ≡ eventsOf (historyFrom image start k h)
 unfolding journalFrom historyFrom eventsOf eventsAt
-entries-from image start k none = refl
-entries-from image start k (h andThen g) =
+events-from image start k none = refl
+events-from image start k (h andThen g) =
     let r = resultFrom image start h g in
-    entries-by image (stateFrom image start h) g k (r .answer) r (historyFrom image start k h) (journalFrom image start h) (entries-from image start k h)
+    events-by image (stateFrom image start h) g k (r .answer) r (historyFrom image start k h) (journalFrom image start h) (events-from image start k h)
 
 -- a list of scans over an accepted table, from a state in form
 module _ (image start : List ℕ) (n : ℕ) (table : checkOf image ≡ Blocks n) (first : Held image start) where
@@ -112,14 +112,14 @@ block-run : (image buffer : List ℕ) (n : ℕ) → FreshMade image buffer n →
     → (k : ℕ) → k < length (blocksOf image) → BlockRun image buffer scans k
 block-run image buffer n m {scans} x k l =
     let s = kept-after image buffer n m k l x in
-    let entries = entries-from image (freshOf image buffer .state) k scans in
+    let events = events-from image (freshOf image buffer .state) k scans in
     let p = block-invariant (blockAt (blocksOf image) k .kind) (historyOf image buffer k scans) (s .made) in
     record {
-      turns = rw (entries, s .record-is) (p .turns);
-      balance = rw (entries, s .record-is) (p .balance);
+      turns = rw (events, s .record-is) (p .turns);
+      balance = rw (events, s .record-is) (p .balance);
       flags = rw (s .record-is) (p .flags);
       calls = p .calls;
-      entries = entries;
+      events = events;
       inTime = rw (s .record-is) (p .inTime);
       elapsed = rw (s .record-is) (p .elapsed);
       stored = rw (s .record-is) (p .stored);

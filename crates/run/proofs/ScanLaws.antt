@@ -57,11 +57,11 @@ unfolding scanOf scanBlocks
 scan-is image state g n e = rw e
 
 -- of any scan: the events at a block's position in the journal are those of its history
-pub entries-by : (image state : List ℕ) (g : Given) (k : ℕ) (answer : Scanned) (r : ScanResult) (h : History) (ps : List Posted) → eventsAt (suc k) ps ≡ eventsOf h
+pub events-by : (image state : List ℕ) (g : Given) (k : ℕ) (answer : Scanned) (r : ScanResult) (h : History) (ps : List Posted) → eventsAt (suc k) ps ≡ eventsOf h
     → eventsAt (suc k) (withEvents ps answer r) ≡ eventsOf (withSeen image k h state g answer r)
 unfolding eventsOf
-entries-by image state g k (Events n) r h ps x = rw (at-append, x)
-entries-by image state g k (Refused number place) r h ps x = x
+events-by image state g k (Events n) r h ps x = rw (at-append, x)
+events-by image state g k (Refused number place) r h ps x = x
 
 module _ (image state : List ℕ) (g : Given) (framed : Bytes (g .told .frame)) (s : Held image state) where
   -- of a scan that passed checks 20 to 41

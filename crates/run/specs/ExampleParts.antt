@@ -2,42 +2,21 @@
 use Prim.Native.Nat.{ℕ, _*_}
 use mathlib.Core.Bool.{Bool}
 use mathlib.Core.List.{List, [], _∷_, _++_}
-use lib.ListN.{length, take, replicate}
+use lib.ListN.{replicate}
 use Rattle.table.specs.Place.{Answer}
 use Rattle.layout.specs.Buffer.{reportLength, eventLength}
 use Rattle.layout.specs.EventLayout.{Posted}
-use Rattle.block.specs.Entry.{Working, Complete, ErrorReply}
+use Rattle.block.specs.Entry.{Complete}
+use Rattle.block.specs.WorkedExamples.{entry}
 use Rattle.block.specs.History.{History, fresh, _then_}
 use Rattle.block.specs.declared.entry.Piece.{Piece}
 use Rattle.block.specs.declared.entry.Entry.{Entry}
 use Rattle.engine.specs.Scan.{scanAnswer}
 use Rattle.run.specs.Scans.{Scans, none, _andThen_, Given, resultOf}
 
--- a piece of each reply, with its clock
-abbrev pub working : ℕ → Piece
-working clock = record { reply = Working; code = 0; clock = clock }
-
-abbrev pub complete : ℕ → Piece
-complete clock = record { reply = Complete; code = 0; clock = clock }
-
-abbrev pub failing : ℕ → ℕ → Piece
-failing code clock = record { reply = ErrorReply; code = code; clock = clock }
-
 -- an entry that has these pieces; abort and reset reply complete
 abbrev pub entryOf : Bool → Bool → ℕ → ℕ → ℕ → ℕ → List Piece → Entry
-entryOf start abort job limit timeout clock pieces =
-    record {
-      inputs = record { start = start; abort = abort };
-      count = length pieces;
-      «abort_reply» = Complete;
-      «reset_reply» = Complete;
-      «abort_code» = 0;
-      job = job;
-      limit = limit;
-      timeout = timeout;
-      clock = clock;
-      pieces = take 4 (pieces ++ (working 0 ∷ working 0 ∷ working 0 ∷ working 0 ∷ []));
-    }
+entryOf start abort job limit timeout clock pieces = entry start abort Complete job limit timeout clock pieces
 
 -- a scan of n blocks with a report and a journal of ones
 abbrev pub scanOn : ℕ → List ℕ → Given

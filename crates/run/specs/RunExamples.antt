@@ -15,8 +15,9 @@ use Rattle.block.specs.History.{timerOf, timeOutInForce}
 use Rattle.block.specs.declared.entry.Entry.{Entry}
 use Rattle.engine.specs.Serve.{recordIn}
 use Rattle.engine.specs.Fresh.{freshOf}
+use Rattle.block.specs.WorkedExamples.{working, complete, error}
 use Rattle.run.specs.Scans.{Scans, none, _andThen_, Given, stateAfter, journalOf, historyOf}
-use Rattle.run.specs.ExampleParts.{working, complete, failing, entryOf, scanOn, answersOf, passesOf, startsOf, at}
+use Rattle.run.specs.ExampleParts.{entryOf, scanOn, answersOf, passesOf, startsOf, at}
 
 -- Two blocks: position 1 is slot 2, of kind 7 (ETrigATo), tag PUMP; position 2 is slot 1, of kind 9 (LCon), tag FAN, its start wired to the busy flag of slot 2.
 unfoldable pub image : List ℕ
@@ -51,7 +52,7 @@ damaged = scan (entryOf true false 77 0 0 15 []) (entryOf true false 78 0 0 0 (w
 
 -- reset and started again in one call: job 8 fails by its reply
 unfoldable pub fails : Given
-fails = scan (entryOf true false 8 0 10 20 (failing 5 25 ∷ [])) (fan 3)
+fails = scan (entryOf true false 8 0 10 20 (error 5 25 ∷ [])) (fan 3)
 
 -- back to Dormant
 unfoldable pub rests : Given

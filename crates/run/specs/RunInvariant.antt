@@ -35,23 +35,23 @@ module _ (image buffer : List ℕ) (scans : Scans) (k : ℕ) where
   blockRecord = recordIn (stateAfter image buffer scans) k
 
   -- "A block's entries are the events there with its position."
-  abbrev pub blockEntries : List Event
-  blockEntries = eventsAt (suc k) (journalOf image buffer scans)
+  abbrev pub blockEvents : List Event
+  blockEvents = eventsAt (suc k) (journalOf image buffer scans)
 
   -- what holds of one block
   pub record BlockRun : Type 0 where
     -- "The entries, if any, begin with a start and take turns; the last may be a start", each finish with its start's job; a job is open in Executing and Aborting
-    pub turns : Turns blockKind none blockEntries (openJob blockRecord)
+    pub turns : Turns blockKind none blockEvents (openJob blockRecord)
     -- starts are done, failed, aborted and withdrawn, and the open job
-    pub balance : countOf Start blockEntries
-        ≡ countOf DoneEvent blockEntries + countOf Failed blockEntries + countOf AbortedEvent blockEntries + countOf Withdrawn blockEntries + bit (isOpen (blockRecord .step))
+    pub balance : countOf Start blockEvents
+        ≡ countOf DoneEvent blockEvents + countOf Failed blockEvents + countOf AbortedEvent blockEvents + countOf Withdrawn blockEvents + bit (isOpen (blockRecord .step))
     -- no flag in Dormant, one in every other step
     pub flags : flagCount (blockRecord .flags) ≡ cond (eqb (blockRecord .step) Dormant) 0 1
     -- each accepted scan called the block by the rules, from the record before to the record after, with the passes (at most 6) and pieces of its
     -- report; "A start's job is that of the block's frame entry in the scan that wrote it"
     pub calls : EachCall blockKind (historyOf image buffer k scans)
-    -- the entries are the events of these calls, in the order of the scans
-    pub entries : blockEntries ≡ eventsOf (historyOf image buffer k scans)
+    -- they are the events of these calls, in the order of the scans
+    pub events : blockEvents ≡ eventsOf (historyOf image buffer k scans)
     -- in Executing with a time-out in force, elapsed as the readings give it is at most that
     pub inTime : blockRecord .step ≡ Executing → timeOutInForce blockKind (historyOf image buffer k scans) ≢ 0
         → timerOf (historyOf image buffer k scans) .elapsed ≤ timeOutInForce blockKind (historyOf image buffer k scans)

@@ -1,5 +1,4 @@
 -- Document 01, "A list of scans": the state buffer, the journal and the history of each block, read off the bytes.
-use Rattle.engine.specs.Told.{Told}
 use Prim.Native.Nat.{ℕ, suc}
 use mathlib.Core.Bool.{cond}
 use mathlib.Core.List.{List, [], _++_}
@@ -11,6 +10,7 @@ use Rattle.layout.specs.ReportLayout.{reportedPieces, reportedPasses}
 use Rattle.layout.specs.EventLayout.{Posted, decodeEvents, eventsAt}
 use Rattle.block.specs.declared.record.Flags.{Flags}
 use Rattle.block.specs.History.{Seen, History, fresh, _then_}
+use Rattle.engine.specs.Told.{Told}
 use Rattle.engine.specs.Inputs.{flagsIn, inputsOf}
 use Rattle.engine.specs.Serve.{recordIn, entryIn}
 use Rattle.engine.specs.Fresh.{freshOf}
@@ -64,22 +64,26 @@ module _ (image : List ℕ) where
   withSeen k h before g (Events n) r = h then seenAt k before g r n
   withSeen k h before g (Refused number place) r = h
 
+  -- what a scan from a state buffer answers and leaves
+  abbrev pub scanGiven : List ℕ → Given → ScanResult
+  scanGiven state g = scanOf image state (g .told) (g .report) (g .journal)
+
   -- from any state buffer
   module _ (start : List ℕ) where
     -- "each later one as the scan before left it, which a refused scan does by not touching it"
     unfoldable pub stateFrom : Scans → List ℕ
     stateFrom none = start
-    stateFrom (h andThen g) = scanOf image (stateFrom h) (g .told) (g .report) (g .journal) .state
+    stateFrom (h andThen g) = scanGiven (stateFrom h) g .state
 
     -- what the scan after some scans answers and leaves
     abbrev pub resultFrom : Scans → Given → ScanResult
-    resultFrom h g = scanOf image (stateFrom h) (g .told) (g .report) (g .journal)
+    resultFrom h g = scanGiven (stateFrom h) g
 
     unfoldable pub journalFrom : Scans → List Posted
     journalFrom none = []
     journalFrom (h andThen g) = withEvents (journalFrom h) (resultFrom h g .answer) (resultFrom h g)
 
-    -- the history of the block at index k
+    -- what is seen of the block at index k in the accepted scans; a history begins with the fresh record, so it is one of the machine's where `start` is fresh
     unfoldable pub historyFrom : ℕ → Scans → History
     historyFrom k none = fresh
     historyFrom k (h andThen g) = withSeen k (historyFrom k h) (stateFrom h) g (resultFrom h g .answer) (resultFrom h g)

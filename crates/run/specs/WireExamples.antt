@@ -13,8 +13,9 @@ use Rattle.block.specs.Record.{TimedOut}
 use Rattle.block.specs.Event.{Start, DoneEvent, Failed}
 use Rattle.block.specs.declared.entry.Entry.{Entry}
 use Rattle.engine.specs.Fresh.{freshOf}
+use Rattle.block.specs.WorkedExamples.{working, complete, error}
 use Rattle.run.specs.Scans.{Scans, none, _andThen_, Given, stateAfter, resultOf, journalOf, historyOf}
-use Rattle.run.specs.ExampleParts.{working, complete, failing, entryOf, scanOn, answersOf, passesOf, usedOf, startsOf, at}
+use Rattle.run.specs.ExampleParts.{entryOf, scanOn, answersOf, passesOf, usedOf, startsOf, at}
 
 -- Four blocks. Position 1 is slot 3, of kind 8 (ETrigATITo), tag CAM, its abort wired to the aborted flag of LAMP, which no LConTI shows. Position 2 is
 -- slot 1, of kind 9 (LCon), tag GATE, its start wired to CAM's done; position 3 slot 4, of kind 13 (LConC), tag ALARM, to CAM's error; position 4
@@ -65,14 +66,14 @@ works = scan (encodeEntry (entryOf true true 99 5 5 1060 (working 1070 ∷ worki
 -- elapsed reaches its greatest
 unfoldable pub timesOut : Given
 timesOut =
-    scan (encodeEntry (entryOf false false 99 0 0 1095 (working 1101 ∷ complete 1102 ∷ []))) (idle 22) (entryOf false false 32 0 0 0 (failing 513 0 ∷ []))
+    scan (encodeEntry (entryOf false false 99 0 0 1095 (working 1101 ∷ complete 1102 ∷ []))) (idle 22) (entryOf false false 32 0 0 0 (error 513 0 ∷ []))
     (entryOf false false 42 0 0 0 (working 2000000000 ∷ working 4000000000 ∷ working 1000 ∷ []))
 
 -- CAM is reset by its request and starts again, and its complete piece is the last one used; GATE starts, uses one piece of two and ignores its
 -- abort bit; ALARM, whose error was shown with start true, is reset
 unfoldable pub restarts : Given
 restarts =
-    scan (encodeEntry (entryOf true false 8 50 100 1105 (complete 1110 ∷ failing 5 1111 ∷ [])))
+    scan (encodeEntry (entryOf true false 8 50 100 1105 (complete 1110 ∷ error 5 1111 ∷ [])))
     (entryOf false true 23 0 0 5 (working 6 ∷ complete 7 ∷ [])) (idle 33) (entryOf false false 43 0 0 1001 [])
 
 -- before CAM times out, and all four

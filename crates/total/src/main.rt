@@ -1,5 +1,5 @@
 // Every entry point and every export called on free slices. No function here has a `requires`, so none of those can have one: what it asked, its
-// caller could not show. The program calls each with no bytes at all and prints how often it was refused.
+// caller could not show. The program calls each with no bytes at all and prints what it answered.
 use engine::scan::Scanned;
 use table::check::Checked;
 use table::lookup::Found;
@@ -81,7 +81,7 @@ fn print_scanned(answer: Scanned) {
 fn print_packed(name: &[u8], answer: u64) {
     print(name);
     print(b": refused ");
-    io::print_decimal(1, answer / 4294967296);
+    io::print_decimal(1, answer / lane::NUMBER_WEIGHT);
     print(b"\n");
 }
 
