@@ -1,4 +1,4 @@
--- The lists of scans of specs/RunExamples.antt and specs/WireExamples.antt, computed from the bytes of the table, the lent buffer and the frames: for
+-- The lists of scans of specs/RunExamples, WireExamples and SelfWireExamples, computed from the bytes of the table, the lent buffer and the frames: for
 -- the reader, so that the run promise is seen not to be empty.
 use mathlib.Core.Path.{refl}
 use Rattle.kind.specs.Kind.{isKind, isEdge, hasAbort, hasTimeLimit, hasTimeOut, isContinuous}
@@ -37,10 +37,13 @@ use Rattle.run.specs.ExampleParts.{answersOf, passesOf, usedOf, startsOf
 use Rattle.run.specs.RunExamples.{image, buffer, starts, isDone, damaged, fails, rests, isLate, isAborted, works, scans, running, RunExample}
 use Rattle.run.specs.WireExamples.{camBytes, timesOut, restarts, WireExample}
 use Rattle.run.specs.WireExamples.{image as wireImage, buffer as wireBuffer, starts as wireStarts, works as wireWorks, running as wireRunning, scans as wireScans}
+use Rattle.run.specs.SelfWireExamples.{aborts, SelfWireExample}
+use Rattle.run.specs.SelfWireExamples.{image as selfImage, buffer as selfBuffer, starts as selfStarts, scans as selfScans}
 
-computed : RunExample × WireExample
+computed : RunExample × WireExample × SelfWireExample
 unfolding image buffer starts isDone damaged fails rests isLate isAborted works scans running answersOf passesOf usedOf startsOf
     wireImage wireBuffer camBytes wireStarts wireWorks timesOut restarts wireRunning wireScans
+    selfImage selfBuffer selfStarts aborts selfScans
     freshOf stateFrom journalFrom historyFrom scanOf scanBlocks verifyOf stateSound frameForm servedTo served callIn inputsOf flagsSeen
     checkOf verdictOf headerCheck walked walkIn unmet recordsCheck recordsFrom recordCheck tagAmong tagForm tagText tagChar padded
     spaces sameBytes sparesCheck sparesFrom allZero blocksIn blockIn positionFrom
@@ -66,6 +69,7 @@ computed = (
     events = refl;
     state = refl;
   },
+  record { answers = refl; journal = refl; beacon = refl; passes = refl; report = refl; events = refl },
 )
 
 pub run-example : RunExample
@@ -73,3 +77,6 @@ run-example = computed .0
 
 pub wire-example : WireExample
 wire-example = computed .1
+
+pub self-wire-example : SelfWireExample
+self-wire-example = computed .2

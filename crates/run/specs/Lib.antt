@@ -3,3 +3,4 @@ pub mod RunInvariant
 pub mod ExampleParts
 pub mod RunExamples
 pub mod WireExamples
+pub mod SelfWireExamples
