@@ -6,6 +6,10 @@
 
 #include "lane.h"
 
+#if LANE_ABI != 1
+#error "this host is written for LANE_ABI 1"
+#endif
+
 #include <stdio.h>
 #include <stdlib.h>
 #include <string.h>
@@ -49,16 +53,16 @@ struct block {
     uint8_t next;
     uint8_t start_slot; /* 0: Execute or Enable comes from the frame */
     uint8_t start_code;
-    const char *tag;
+    const char *name;
 };
 
 /* In chain order; slot 3 is spare. */
 static const struct block blocks[LANES] = {
-    {2, LANE_KIND_ETRIG, 5, 0, 0, "LANE0   "},
-    {5, LANE_KIND_ETRIG_TO, 1, 2, LANE_WIRE_DONE, "LANEO   "},
-    {1, LANE_KIND_ETRIG_A_TO, 6, 0, 0, "LANE1   "},
-    {6, LANE_KIND_ETRIG_A, 4, 0, 0, "LANEI   "},
-    {4, LANE_KIND_LCON, 0, 6, LANE_WIRE_BUSY, "GATE    "},
+    {2, LANE_KIND_ETRIG, 5, 0, 0, "LANE0"},
+    {5, LANE_KIND_ETRIG_TO, 1, 2, LANE_WIRE_DONE, "LANEO"},
+    {1, LANE_KIND_ETRIG_A_TO, 6, 0, 0, "LANE1"},
+    {6, LANE_KIND_ETRIG_A, 4, 0, 0, "LANEI"},
+    {4, LANE_KIND_LCON, 0, 6, LANE_WIRE_BUSY, "GATE"},
 };
 
 /* What one lane is given in one scan. */
@@ -120,10 +124,10 @@ struct logged {
 /* Says which check refused a call, where, and why. */
 static void print_refusal(FILE *to, const char *call, uint64_t answer)
 {
-    enum lane_place sort = lane_refusal_place_sort(answer);
+    enum lane_place kind = lane_refusal_place_kind(answer);
     fprintf(to, "%s: refused %u", call, (unsigned)lane_refusal_number(answer));
-    if (sort != LANE_PLACE_NONE)
-        fprintf(to, " at %s %u", lane_place_text(sort), (unsigned)lane_refusal_place(answer));
+    if (kind != LANE_PLACE_NONE)
+        fprintf(to, " at %s %u", lane_place_text(kind), (unsigned)lane_refusal_place(answer));
     fprintf(to, ": %s\n", lane_refusal_text(answer));
 }
 
@@ -154,7 +158,7 @@ static void write_table(uint8_t *image)
         struct lane_slot slot = {.kind = block->kind, .next = block->next};
         slot.start_wire = block->start_slot;
         slot.start_code = block->start_code;
-        memcpy(slot.tag, block->tag, LANE_TAG_BYTES);
+        expect(lane_put_tag(slot.tag, block->name), "a name of at most eight characters");
         lane_put_slot(image, block->slot, &slot);
     }
 }
@@ -190,21 +194,22 @@ static void print_legend(void)
            "  from a wire; - the block has no abort input.\n"
            "reply: what its devices answered; aborting and aborted: to an abort; - nothing.\n"
            "BDEA: the flags busy, done, error, aborted.\n"
-           "pass: steps that the call went through, the last included; used: replies taken.\n"
-           "elapsed/time-out: microseconds since the job's start, and those allowed, if any.\n"
+           "pass: passes of the call, the stopping one included; used: replies taken.\n"
+           "elapsed/time-out: microseconds from the job's start to its last clock reading\n"
+           "  (an ended or aborting job reads none), and those allowed, if any.\n"
            "code: why a job failed; %d is elapsed past the time-out, even if complete.\n"
            "clock: in microseconds; it wraps from 4294967295 to 0 before scan 4.\n\n"
            "lane   S A  reply     step       BDEA  pass  used  elapsed/time-out  code truck\n",
            LANE_CODE_TIME_OUT);
 }
 
-/* The position of the block in a slot. */
+/* The position of the block in a slot, 0 if the slot is not on the chain. */
 static uint32_t position_of(const uint8_t *image, uint32_t slot)
 {
-    uint32_t position = 1;
-    while (lane_slot_at(image, position) != slot)
-        position++;
-    return position;
+    for (uint32_t position = 1; slot != 0 && position <= LANE_MAX_BLOCKS; position++)
+        if (lane_slot_at(image, position) == slot)
+            return position;
+    return 0;
 }
 
 /* An input as the call of a block read it: the frame's bit, or the flag that its wire reads. That is a flag of
@@ -214,9 +219,10 @@ static int input_read(const struct box *box, uint32_t position, int bit, uint8_t
     if (wire == 0)
         return (lane_get_entry(box->frame, position).inputs & bit) != 0;
     uint32_t from = position_of(box->image, wire);
+    expect(from != 0, "an accepted table has wires from its chain only");
     uint8_t flags = from < position ? lane_get_report(box->report, from).flags
                                     : lane_get_record(box->before, from).flags;
-    int flag = flags >> code % LANE_WIRE_INVERTED & 1;
+    int flag = (flags >> (code % LANE_WIRE_INVERTED)) & 1;
     return code < LANE_WIRE_INVERTED ? flag : !flag;
 }
 
@@ -258,7 +264,7 @@ static void print_journal(const struct logged *log, size_t events)
     printf("\nJournal\nscan  lane     event       code   truck\n");
     for (size_t i = 0; i < events; i++) {
         const struct lane_event *event = &log[i].event;
-        printf("%4d  %.8s %-9s %6u %7lu\n", log[i].scan, blocks[event->position - 1].tag,
+        printf("%4d  %-8s %-9s %6u %7lu\n", log[i].scan, blocks[event->position - 1].name,
                event_names[event->kind], (unsigned)event->code, (unsigned long)event->job);
     }
 }
@@ -271,18 +277,24 @@ static uint64_t run_scan(struct box *box)
                      sizeof box->journal);
 }
 
+/* Finds the block with a name. */
+static uint64_t find(const struct box *box, const char *name)
+{
+    uint8_t tag[LANE_TAG_BYTES];
+    lane_put_tag(tag, name);
+    return lane_find(box->image, sizeof box->image, tag, sizeof tag);
+}
+
 /* Every lane is found at its place in the chain, however much its tag looks like another. */
 static void find_lanes(const struct box *box)
 {
-    static const uint8_t absent[] = "LANE2   ";
     for (uint32_t i = 0; i < LANES; i++) {
-        const uint8_t *tag = (const uint8_t *)blocks[i].tag;
-        uint64_t answer = lane_find(box->image, sizeof box->image, tag, LANE_TAG_BYTES);
-        printf("%.8s is at position %u\n", blocks[i].tag, (unsigned)accepted("lane_find", answer));
+        uint64_t answer = find(box, blocks[i].name);
+        printf("%-8s is at position %u\n", blocks[i].name, (unsigned)accepted("lane_find", answer));
         expect(lane_value(answer) == i + 1, "position of a tag");
         expect(lane_slot_at(box->image, i + 1) == blocks[i].slot, "slot of a position");
     }
-    uint64_t answer = lane_find(box->image, sizeof box->image, absent, LANE_TAG_BYTES);
+    uint64_t answer = find(box, "LANE2");
     expect(lane_refusal_number(answer) == LANE_REFUSED_LOOKUP_ABSENT, "LANE2 is not in the table");
     print_refusal(stdout, "LANE2", answer);
 }
@@ -297,7 +309,7 @@ static void run_bad_scan(struct box *box)
     before = *box;
     uint64_t answer = run_scan(box);
     expect(lane_refusal_number(answer) == LANE_REFUSED_FRAME_FORM &&
-               lane_refusal_place_sort(answer) == LANE_PLACE_POSITION && lane_refusal_place(answer) == 3,
+               lane_refusal_place_kind(answer) == LANE_PLACE_POSITION && lane_refusal_place(answer) == 3,
            "the entry at position 3 is refused");
     expect(memcmp(&before, box, sizeof before) == 0, "a refused scan writes nothing");
     printf("\nA ninth scan, with a wrong reply for the reset of LANE1, writes nothing:\n");

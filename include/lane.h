@@ -4,12 +4,12 @@
  * have any length and any content; an empty one may be (NULL, 0). Numbers in slices are little-endian.
  * A slice lent for writing (state, report, journal) shares no byte with another slice of the call: all
  * that the engine promises rests on that. No alignment is asked. The engine has no heap, no static data
- * and no locks, so calls over different buffers may run at once; of the C library it needs memcpy and
- * memset only.
+ * and no locks, so calls over different buffers may run at once. Of the C library the archive needs memset
+ * only; the functions of this header need memcpy and strlen too.
  *
- * Stack. A call takes less than LANE_STACK_BYTES. Measured on x86-64: 828 at most, of lane_scan, by filling a
- * stack with one byte value, running calls over 64 blocks on it and looking how deep it was changed. No length
- * or content of a slice makes it more. What memset and memcpy of the C library take comes on top.
+ * Stack. A call takes at most LANE_STACK_BYTES, and no length or content of a slice makes it more; what memset
+ * takes comes on top. It is measured on x86-64: a test fills a stack with one byte value, runs calls over 64
+ * blocks on it and looks how deep it was changed.
  *
  * Answers. A call answers one number. Accepted, it is a value below 2^32; refused, it is
  * number * 2^32 + place. The number, LANE_REFUSED_.., says which check failed, the place at which slot of
@@ -18,7 +18,8 @@
  * are checked in order, each through 7 to 10 before the next; the first check that fails is given. A
  * refused call has written nothing.
  *
- * Buffers. The functions at the end read and write them, so that no host needs an offset.
+ * Buffers. The functions at the end read and write them, so that no host needs an offset. What the blocks make
+ * of them is in docs/RULES.md of the repository.
  */
 
 #ifndef LANE_H
@@ -30,10 +31,11 @@
 
 /* Counts the changes after which a host must be compiled anew: another layout or length of a buffer, other
  * arguments of a function, another meaning of a number or an answer. What is only added doesn't count: a
- * function, a refusal, a kind. The archive doesn't hold it: take the header that came with the archive. */
+ * function, a refusal, a kind. The archive doesn't hold it: a host that links a prebuilt one is compiled with
+ * the header shipped beside it, and `#if LANE_ABI != 1` in its source then tells of a change. */
 #define LANE_ABI 1
 
-/* The stack of a call, rounded up. */
+/* The most stack that a call takes, rounded up. */
 #define LANE_STACK_BYTES 1024
 
 /* Lengths in bytes. */
@@ -84,11 +86,13 @@ enum {
     LANE_AT_RECORD_TIME_LIMIT = 12, /* 4  the time limit taken at the start, 0 for none */
     LANE_AT_RECORD_TIME_OUT = 16,   /* 4  the time-out taken at the start, 0 for none */
     LANE_AT_RECORD_READING = 20,    /* 4  the last clock reading */
-    LANE_AT_RECORD_ELAPSED = 24     /* 8  the time since the start, held at 2^32 */
+    LANE_AT_RECORD_ELAPSED = 24     /* 8  the time from the start to the last reading, at most 2^32 */
 };
 
-/* A frame entry, at LANE_ENTRY_BYTES * (position - 1). Piece i, from 0, begins at
- * LANE_AT_ENTRY_PIECES + LANE_PIECE_BYTES * i; pieces past the count are zero. */
+/* A frame entry, at LANE_ENTRY_BYTES * (position - 1). The pieces are the job's work in this call, one reply
+ * each, in order; with none the reply is working. Kinds without TI use one at most. Piece i, from 0, begins at
+ * LANE_AT_ENTRY_PIECES + LANE_PIECE_BYTES * i; pieces past the count are zero. A block stays in Aborting or
+ * Resetting while the reply of that action is working. */
 enum {
     LANE_AT_ENTRY_INPUTS = 0,      /* 1  LANE_INPUT_.. */
     LANE_AT_ENTRY_COUNT = 1,       /* 1  the piece count, 0 to 4 */
@@ -233,13 +237,14 @@ extern "C" {
 /* Checks a table: the number of its blocks. Refusals 1 to 11. Only reads. */
 uint64_t lane_check(const uint8_t *image, size_t image_len);
 
-/* Makes the state of a table fresh, whatever it holds: the number of blocks. Refusals 1 to 11, 20. */
+/* Makes the state of a table fresh, whatever it holds, one record a block: the number of blocks. Refusals 1 to
+ * 11, 20. */
 uint64_t lane_fresh(const uint8_t *image, size_t image_len, uint8_t *state, size_t state_len);
 
 /* Runs one scan: calls each block once, in chain order, with its frame entry. Leaves the new records in
  * the state, one entry a block in the report, and the events at the front of the journal, of which the
- * bytes after the last event stay as they were; answers the number of events. Refusals 1 to 11 and 20 to
- * 41. */
+ * bytes after the last event stay as they were; answers the number of events. State, frame and report have
+ * exactly one part a block, the journal room for two events a block or more. Refusals 1 to 11 and 20 to 41. */
 uint64_t lane_scan(const uint8_t *image, size_t image_len, uint8_t *state, size_t state_len,
                    const uint8_t *frame, size_t frame_len, uint8_t *report, size_t report_len,
                    uint8_t *journal, size_t journal_len);
@@ -265,7 +270,7 @@ static inline uint32_t lane_refusal_place(uint64_t answer)
 }
 
 /* What the place of a refusal is: it goes by the number of the check. */
-static inline enum lane_place lane_refusal_place_sort(uint64_t answer)
+static inline enum lane_place lane_refusal_place_kind(uint64_t answer)
 {
     if (lane_refusal_place(answer) == 0)
         return LANE_PLACE_NONE;
@@ -420,6 +425,18 @@ static inline void lane_put64(uint8_t *to, uint64_t value)
 {
     lane_put32(to, (uint32_t)(value & 0xffffffff));
     lane_put32(to + 4, (uint32_t)(value >> 32));
+}
+
+/* Writes a name as a tag, eight bytes: the name, then spaces. Answers 1, or 0 if the name is longer than that;
+ * the tag is then all spaces, which the engine refuses, and never the front of the name. */
+static inline int lane_put_tag(uint8_t *tag, const char *name)
+{
+    size_t length = strlen(name);
+    memset(tag, ' ', LANE_TAG_BYTES);
+    if (length > LANE_TAG_BYTES)
+        return 0;
+    memcpy(tag, name, length);
+    return 1;
 }
 
 /* The offset of a slot in a table. */

@@ -169,7 +169,7 @@ impl List {
     }
 }
 
-/// A sort of damage, in the order of the checks. Of several, a wrong length goes last.
+/// A kind of damage, in the order of the checks. Of several, a wrong length goes last.
 #[derive(Clone, Copy, Debug, PartialEq, Eq, PartialOrd, Ord)]
 pub enum Wrong {
     Table,
@@ -182,7 +182,7 @@ pub enum Wrong {
 }
 
 impl Wrong {
-    /// All sorts.
+    /// All kinds.
     pub const ALL: [Wrong; 7] = [
         Wrong::Table,
         Wrong::StateLength,

@@ -401,7 +401,7 @@ impl Table {
     }
 }
 
-/// A sort of damage, in about the order of the checks. Of several, the last goes first: a wrong length
+/// A kind of damage, in about the order of the checks. Of several, the last goes first: a wrong length
 /// leaves the others nothing to damage.
 #[derive(Clone, Copy, Debug, PartialEq, Eq, PartialOrd, Ord)]
 pub enum Fault {
@@ -416,7 +416,7 @@ pub enum Fault {
 }
 
 impl Fault {
-    /// All sorts.
+    /// All kinds.
     pub const ALL: [Fault; 8] = [
         Fault::Length,
         Fault::Header,

@@ -34,7 +34,7 @@ fn cases_of_the_table() {
     tally.expect_places(5..=11);
 }
 
-/// The binding gives the same places by their sort, and names them in its sentence.
+/// The binding gives the same places by their kind, and names them in its sentence.
 #[test]
 fn places_are_named() {
     for (name, call, _) in cases() {

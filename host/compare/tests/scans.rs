@@ -79,10 +79,10 @@ fn spoil(rng: &mut Rng, list: &List, given: &mut Buffers) -> Option<Vec<Refusal>
     match rng.below(8) {
         0 => {
             let count = rng.pick(&[1, 1, 2, 3]);
-            let mut sorts = Wrong::ALL;
-            rng.shuffle(&mut sorts);
-            for sort in &sorts[..count] {
-                refusals.extend(list.damage(rng, given, *sort));
+            let mut kinds = Wrong::ALL;
+            rng.shuffle(&mut kinds);
+            for kind in &kinds[..count] {
+                refusals.extend(list.damage(rng, given, *kind));
             }
         }
         1 if rng.one_in(4) => {
@@ -185,8 +185,8 @@ fn damaged_scans() {
         let state = sound_state(&mut rng, &table);
         let mut list = List::new(&mut rng, table);
         let mut given = list.scan(&mut rng, &state);
-        let sort = rng.pick(&Wrong::ALL);
-        let refusal = list.damage(&mut rng, &mut given, sort);
+        let kind = rng.pick(&Wrong::ALL);
+        let refusal = list.damage(&mut rng, &mut given, kind);
         let (found, _) = agreed(case, scan(&given));
         expect_first(case, &given, refusal.as_slice(), found);
         tally.add(found);

@@ -128,7 +128,7 @@ fn spoil(rng: &mut Rng, call: &mut Call, other: &Call) {
     match rng.below(7) {
         0 | 1 => damage(rng, &mut call.slices[which]),
         2 => resize(rng, &mut call.slices[which]),
-        // A slice of another call, of whatever sort.
+        // A slice of another call, of whatever kind.
         3 => call.slices[which].clone_from(&other.slices[rng.below(other.slices.len())]),
         4 => call.slices[which] = noise(rng, length),
         5 => call.slices[which].clear(),
@@ -136,7 +136,7 @@ fn spoil(rng: &mut Rng, call: &mut Call, other: &Call) {
     }
 }
 
-/// A call to try: a kept or a new one, as it is or with up to three sorts of damage.
+/// A call to try: a kept or a new one, as it is or damaged up to three times.
 pub fn any(rng: &mut Rng, kept: &[Call]) -> Call {
     let other = &kept[rng.below(kept.len())];
     let mut call = match rng.below(3) {

@@ -143,9 +143,9 @@ pub struct Record {
     pub time_limit: u32,
     /// The time-out taken at the start, in microseconds; 0 is none.
     pub time_out: u32,
-    /// The last clock reading.
+    /// The job's last clock reading: none is made once the job has ended or is aborting.
     pub last_reading: u32,
-    /// The time elapsed since the start, in microseconds.
+    /// The time from the start to the last reading, in microseconds, at most 2^32.
     pub elapsed: u64,
 }
 
@@ -306,9 +306,9 @@ pub struct Entry {
     pub start: bool,
     /// The abort input, unless a wire gives it.
     pub abort: bool,
-    /// The reply of the abort action.
+    /// The reply of the abort action; the block stays in Aborting while it is working.
     pub abort_reply: Reply,
-    /// Whether the reset is complete.
+    /// Whether the reset is complete; the block stays in Resetting until it is.
     pub reset_complete: bool,
     /// The job, any number.
     pub job: u32,
@@ -318,7 +318,7 @@ pub struct Entry {
     pub time_out: u32,
     /// The clock at the call, in microseconds.
     pub clock: u32,
-    /// The pieces of work.
+    /// The pieces of the job's work in this call; with none the reply is working. Kinds without TI use one at most.
     pub pieces: Pieces,
 }
 
@@ -374,7 +374,7 @@ pub struct ReportEntry {
     pub flags: Flags,
     /// The pieces used in the call.
     pub pieces_used: u8,
-    /// The passes of the call.
+    /// The passes of the call, the stopping one included.
     pub passes: u8,
     /// The step after the call.
     pub step: Step,

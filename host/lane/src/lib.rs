@@ -59,5 +59,5 @@ pub use table::{HEADER_BYTES, MAX_BLOCKS, SLOT_BYTES, TAG_BYTES};
 /// layout, of a function's arguments or of what a number means raises it.
 pub const ABI: u32 = 1;
 
-/// The stack that a call takes, rounded up, in bytes, as the C header says.
+/// The most stack that a call takes, rounded up, in bytes, as the C header says.
 pub const STACK_BYTES: u64 = 1024;

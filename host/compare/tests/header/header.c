@@ -2,6 +2,7 @@
  * constant, by names.inc; then, for each line of input, what the header's functions make of it:
  *   answer NUMBER PLACE                          the functions that take an answer apart
  *   chain HEX                                    the slots at positions 0 to 65 of an image
+ *   tag NAME                                     whether the name fits, and its tag
  *   slot|record|entry|report|event HEX           the fields of a part, and the bytes put back
  */
 
@@ -59,7 +60,7 @@ static void show_answer(const char *rest)
     uint64_t answer = number << 32 | place;
     printf("%d %" PRIu32 " %" PRIu32 " %" PRIu32 " [%s] %s\n", lane_is_accepted(answer), lane_value(answer),
            lane_refusal_number(answer), lane_refusal_place(answer),
-           lane_place_text(lane_refusal_place_sort(answer)), lane_refusal_text(answer));
+           lane_place_text(lane_refusal_place_kind(answer)), lane_refusal_text(answer));
 }
 
 static void show_chain(const char *hex)
@@ -68,6 +69,14 @@ static void show_chain(const char *hex)
     for (uint32_t position = 0; position <= LANE_MAX_BLOCKS + 1; position++)
         printf("%" PRIu32 " ", lane_slot_at(from, position));
     printf("\n");
+}
+
+static void show_tag(const char *rest)
+{
+    static char name[LONGEST];
+    snprintf(name, sizeof name, "%.*s", (int)strcspn(rest, "\n"), rest);
+    printf("%d ", lane_put_tag(to + LANE_TAG_BYTES, name));
+    print_put(LANE_TAG_BYTES, LANE_TAG_BYTES);
 }
 
 static void show_slot(const char *hex)
@@ -132,9 +141,9 @@ int main(void)
     static const struct {
         const char *name;
         void (*show)(const char *rest);
-    } shows[] = {{"answer", show_answer}, {"chain", show_chain},   {"slot", show_slot},
-                 {"record", show_record}, {"entry", show_entry},   {"report", show_report},
-                 {"event", show_event}};
+    } shows[] = {{"answer", show_answer}, {"chain", show_chain},   {"tag", show_tag},
+                 {"slot", show_slot},     {"record", show_record}, {"entry", show_entry},
+                 {"report", show_report}, {"event", show_event}};
     static char line[2 * LONGEST + 16];
     print_constants();
     printf("\n");

@@ -1,5 +1,7 @@
 //! The C header is held to the binding: every constant that it defines, what its functions say of an answer,
-//! the slot of each position, and every field that its readers and writers read and write.
+//! the slot of each position, the tag of a name, and every field that its readers and writers read and write.
+//! What it says of the archive is held to the archive: its stack, what it needs, and that it has no data that
+//! changes.
 //!
 //! `header.c` shows what the header says; the C compiler (`CC`, or `cc`) compiles it here.
 
@@ -9,7 +11,7 @@ mod parts;
 use compare::rng::{settings, Rng};
 use compare::tables::{Size, Table};
 use compare::text::slice;
-use lane::{Place, Refusal};
+use lane::{Place, Refusal, Tag};
 use std::collections::BTreeMap;
 use std::env;
 use std::fs::{self, File};
@@ -91,21 +93,21 @@ fn expect(test: &str, cases: Vec<(String, String)>) {
     }
 }
 
-/// The number, the place, its sort and the sentence of every refusal, and of numbers that are none.
+/// The number, the place, its kind and the sentence of every refusal, and of numbers that are none.
 #[test]
 fn answers() {
     let mut cases = Vec::new();
     for number in 0..=120 {
         for place in [0, 1, 64] {
             let refusal = Refusal::new(number, place);
-            let sort = match refusal.place() {
+            let kind = match refusal.place() {
                 Place::Slot(_) => "slot",
                 Place::Position(_) => "position",
                 _ => "",
             };
             let expected = match number {
                 0 => format!("1 {place} 0 0 [] the call was accepted"),
-                _ => format!("0 {place} {number} {place} [{sort}] {}", refusal.reason()),
+                _ => format!("0 {place} {number} {place} [{kind}] {}", refusal.reason()),
             };
             cases.push((format!("answer {number} {place}"), expected));
         }
@@ -137,12 +139,56 @@ fn slots_of_positions() {
     expect("slots", cases.collect());
 }
 
+/// The tag of a name is the binding's, and none where the name is too long.
+#[test]
+fn tags_of_names() {
+    let names = [
+        "",
+        "A",
+        "LANE0",
+        "LANEO",
+        "LANE0001",
+        "LANE00012",
+        "ABCDEFGHIJKLMNOP",
+    ];
+    let cases = names.map(|name| {
+        let bytes = name.parse().map_or([b' '; 8], |tag: Tag| *tag.as_bytes());
+        let fits = u8::from(name.len() <= 8);
+        (
+            format!("tag {name}"),
+            format!("{fits} {}", &slice(&bytes)[1..]),
+        )
+    });
+    expect("tags", cases.into());
+}
+
+/// The archive that the binding links.
+fn archive() -> PathBuf {
+    let default = || Path::new(env!("CARGO_MANIFEST_DIR")).join("../../target/staticlib");
+    let folder = env::var_os("LANE_LIB_DIR").map_or_else(default, PathBuf::from);
+    folder.join("liblane.a")
+}
+
+/// Of the C library the archive needs memset only, and it holds code and constants only.
+#[test]
+fn symbols() {
+    let output = Command::new("nm").arg(archive()).output().expect("nm runs");
+    let text = String::from_utf8(output.stdout).expect("plain text");
+    let symbols = text.lines().map(|line| line.split_whitespace().collect());
+    let symbols: Vec<Vec<&str>> = symbols.filter(|words: &Vec<_>| words.len() > 1).collect();
+    for symbol in &symbols {
+        let known = matches!(symbol[..], [_, "T" | "t" | "R" | "r", ..] | ["U", "memset"]);
+        assert!(known, "{symbol:?}");
+    }
+    assert!(symbols
+        .iter()
+        .any(|symbol| symbol.ends_with(&["lane_scan"])));
+}
+
 /// No call takes more stack than the header says.
 #[test]
 fn stack() {
-    let default = || Path::new(env!("CARGO_MANIFEST_DIR")).join("../../target/staticlib");
-    let folder = env::var_os("LANE_LIB_DIR").map_or_else(default, PathBuf::from);
-    let program = compile("stack", Some(folder.join("liblane.a")));
+    let program = compile("stack", Some(archive()));
     let output = Command::new(program).output().expect("the program runs");
     assert!(output.status.success(), "{output:?}");
     let text = String::from_utf8(output.stdout).expect("plain text");
