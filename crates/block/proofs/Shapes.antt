@@ -6,11 +6,11 @@ use mathlib.Core.List.{[], _∷_}
 use mathlib.Core.Path.{_≡_, refl, sym, subst}
 use lib.Dec.{eqb, leb}
 use borrow.Author.Tests.{not-true, not-false, eqb-true, leb-false, le-leb}
-use Rattle.kind.specs.Kind.{isKind, isEdge, hasAbort, hasTimeLimit, hasTimeOut, isContinuous}
+use Rattle.kind.specs.Kind.{isKind, isEdge, hasAbort, canAbort, hasTimeLimit, hasTimeOut, isContinuous}
 use Rattle.clock.specs.Clock.{mostElapsed}
 use Rattle.clock.specs.declared.Timer.{Timer}
 use Rattle.block.specs.Record.{Dormant, Executing, Done, Error, Aborting, Aborted, Resetting, TimedOut, freshRecord}
-use Rattle.block.specs.Sound.{only, busyOnly, doneOnly, errorOnly, abortedOnly, implies, zeroed, flagsFit, codeSound, requestSound, canAbort, stepSound, timesSound, sound}
+use Rattle.block.specs.Sound.{only, busyOnly, doneOnly, errorOnly, abortedOnly, implies, zeroed, flagsFit, codeSound, requestSound, stepSound, timesSound, sound}
 use Rattle.block.specs.declared.record.Flags.{Flags}
 use Rattle.block.specs.declared.record.Record.{Record}
 use Rattle.membership.proofs.Logic.{by-test, and-left, and-right}
@@ -112,12 +112,12 @@ beq-on false = refl
 
 -- an edge kind that can abort has an abort input
 edge-aborts : (k : ℕ) → canAbort k ≡ true → isEdge k ≡ true → hasAbort k ≡ true
-unfolding isEdge hasAbort
+unfolding isEdge hasAbort canAbort
 edge-aborts k h g = rw (and-left (leb 5 k) (leb k 14) h) (and-right (leb 1 k) (leb k 8) g)
 
 -- and of the fourteen kinds, one that is level or has an abort input can abort
 kind-aborts : (k : ℕ) → isKind k ≡ true → (isEdge k ≡ true → hasAbort k ≡ true) → canAbort k ≡ true
-unfolding isKind isEdge hasAbort
+unfolding isKind isEdge hasAbort canAbort
 kind-aborts k h f =
     let least : leb 5 k ≡ true =
     by-test (leb k 8)

@@ -5,11 +5,11 @@ use mathlib.Core.Logic.{_≢_}
 use mathlib.Core.Path.{_≡_, refl, ap, sym, _∙_}
 use lib.Dec.{eqb, leb}
 use borrow.Author.Tests.{eqb-true}
-use Rattle.kind.specs.Kind.{isEdge, hasAbort, hasTimeLimit, hasTimeOut, isContinuous}
+use Rattle.kind.specs.Kind.{isEdge, hasAbort, canAbort, hasTimeLimit, hasTimeOut, isContinuous}
 use Rattle.clock.specs.Clock.{mostElapsed}
 use Rattle.clock.specs.declared.Timer.{Timer}
 use Rattle.block.specs.Record.{Dormant, Executing, Done, Error, Aborting, Aborted, Resetting, TimedOut, atStep}
-use Rattle.block.specs.Sound.{busyOnly, doneOnly, errorOnly, abortedOnly, implies, zeroed, flagsFit, codeSound, requestSound, canAbort, stepSound, timesSound, sound}
+use Rattle.block.specs.Sound.{busyOnly, doneOnly, errorOnly, abortedOnly, implies, zeroed, flagsFit, codeSound, requestSound, stepSound, timesSound, sound}
 use Rattle.block.specs.declared.record.Record.{Record}
 use Rattle.membership.proofs.Logic.{by-test}
 use Rattle.block.proofs.Tests.{none, never, to-six}

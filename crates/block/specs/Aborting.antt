@@ -11,13 +11,11 @@ use Rattle.block.specs.declared.record.Record.{Record}
 use Rattle.block.specs.declared.entry.Entry.{Entry}
 use Rattle.block.specs.declared.pass.Pass.{Pass}
 
--- "level to Resetting with a withdrawn event, again"
-abbrev pub withdrawn : Record → Pass
-withdrawn r = record { next = atStep Resetting r; event = eventOf Withdrawn r; used = 0; again = true }
-
 -- "Reply error: to Error with that code, again. Complete: edge to Aborted, level to Resetting with a withdrawn event, again. Working: stop."
 unfoldable pub aborting : ℕ → Entry → Record → Pass
 aborting k e r =
     cond (eqb (e .«abort_reply») ErrorReply) (goOn 0 (failedWith (e .«abort_code») r))
-    (cond (eqb (e .«abort_reply») Complete) (cond (isEdge k) (goOn 0 (atStep Aborted r)) (withdrawn r))
+    (cond (eqb (e .«abort_reply») Complete)
+    (cond (isEdge k) (goOn 0 (atStep Aborted r))
+    (record { next = atStep Resetting r; event = eventOf Withdrawn r; used = 0; again = true }))
     (stop 0 r))

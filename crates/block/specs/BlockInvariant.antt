@@ -1,5 +1,5 @@
 -- Demand 3 of document 01 for one block: what holds of every history that the block machine makes from the fresh record, whatever inputs
--- and frame entries it is fed. The list of scans (crate engine) feeds it what the wires and the frames give.
+-- and frame entries it is fed. The list of scans (crate run) feeds it what the wires and the frames give.
 use Prim.Native.Nat.{ℕ, _+_, _≤_, _<_}
 use mathlib.Core.Bool.{Bool, true, cond, _||_}
 use mathlib.Core.Logic.{_≢_}

@@ -2,8 +2,7 @@
 use Prim.Native.Nat.{ℕ}
 use mathlib.Core.Bool.{Bool, true, false, not, _&&_, _||_, Bool·beq}
 use lib.Dec.{eqb, leb}
-use Rattle.membership.specs.Membership.{within}
-use Rattle.kind.specs.Kind.{isEdge, hasAbort, hasTimeLimit, hasTimeOut, isContinuous}
+use Rattle.kind.specs.Kind.{isEdge, hasAbort, canAbort, hasTimeLimit, hasTimeOut, isContinuous}
 use Rattle.clock.specs.Clock.{mostElapsed}
 use Rattle.block.specs.Record.{Dormant, Executing, Done, Error, Aborting, Aborted, Resetting, TimedOut}
 use Rattle.block.specs.declared.record.Flags.{Flags}
@@ -59,10 +58,6 @@ codeSound k r = Bool·beq (not (eqb (r .code) 0)) (r .flags .error) && implies (
 unfoldable pub requestSound : ℕ → Record → Bool
 requestSound k r =
     implies (r .flags .busy) (not (r .request)) && implies (r .flags .done && not (isEdge k)) (not (r .request))
-
--- "Aborting: kinds 5-14": those with an abort input, and level kinds
-abbrev pub canAbort : ℕ → Bool
-canAbort k = within 5 14 k
 
 -- "Done step or flag: not kinds 13, 14. Aborting: kinds 5-14. Aborted step or flag: kinds 5-8." "Step is at most 6"
 unfoldable pub stepSound : ℕ → Record → Bool

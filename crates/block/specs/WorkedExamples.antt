@@ -4,10 +4,10 @@ use Prim.Native.Nat.{ℕ}
 use mathlib.Core.Bool.{Bool, true, false}
 use mathlib.Core.List.{List, [], _∷_, _++_, map}
 use mathlib.Core.Path.{_≡_}
-use lib.ListN.{length, take}
-use Rattle.block.specs.Record.{Dormant, Executing, Done, Error, Aborted, noFlags, freshRecord}
+use lib.ListN.{length, take, replicate}
+use Rattle.block.specs.Record.{Dormant, Executing, Done, Error, Aborted, TimedOut, noFlags, freshRecord}
 use Rattle.block.specs.Event.{Start, DoneEvent, Failed, AbortedEvent, Withdrawn}
-use Rattle.block.specs.Entry.{Working, Complete, ErrorReply}
+use Rattle.block.specs.Entry.{Working, Complete, ErrorReply, mostPieces}
 use Rattle.block.specs.Call.{Outcome, callOf}
 use Rattle.block.specs.declared.record.Flags.{Flags}
 use Rattle.block.specs.declared.record.Record.{Record}
@@ -38,7 +38,7 @@ entry start abort abortReply job limit timeout clock pieces =
       limit = limit;
       timeout = timeout;
       clock = clock;
-      pieces = take 4 (pieces ++ (working 0 ∷ working 0 ∷ working 0 ∷ working 0 ∷ []));
+      pieces = take mostPieces (pieces ++ replicate mostPieces (working 0));
     }
 
 -- start 1 with a job; start 0; with a time-out and a call clock; with a time limit
@@ -152,16 +152,16 @@ table =
     ∷ [])
     -- "C7 kind 3, time-out 100, clock 0, working at 100: busy; at 101: code 1."
     ∷ case 3 (withTimeOut 100 0 (working 100) shows row 2 1 Executing busy 0 (event Start 0 0 ∷ []) ∷ [])
-    ∷ case 3 (withTimeOut 100 0 (working 101) shows row 3 1 Error failed 1 (event Start 0 0 ∷ event Failed 1 0 ∷ []) ∷ [])
+    ∷ case 3 (withTimeOut 100 0 (working 101) shows row 3 1 Error failed TimedOut (event Start 0 0 ∷ event Failed TimedOut 0 ∷ []) ∷ [])
     -- "C8 as C7 but complete at 101: code 1."
-    ∷ case 3 (withTimeOut 100 0 (complete 101) shows row 3 1 Error failed 1 (event Start 0 0 ∷ event Failed 1 0 ∷ []) ∷ [])
+    ∷ case 3 (withTimeOut 100 0 (complete 101) shows row 3 1 Error failed TimedOut (event Start 0 0 ∷ event Failed TimedOut 0 ∷ []) ∷ [])
     -- "C9 as C7 but error 5 at 101: code 5."
     ∷ case 3 (withTimeOut 100 0 (error 5 101) shows row 3 1 Error failed 5 (event Start 0 0 ∷ event Failed 5 0 ∷ []) ∷ [])
     -- "C10 kind 2, limit 50, working at 50, 51, 52: two pieces used."
     ∷ case 2 (withLimit 50 (working 50 ∷ working 51 ∷ working 52 ∷ []) shows row 2 2 Executing busy 0 (event Start 0 0 ∷ []) ∷ [])
     -- "C11 kind 3, time-out 10, clock 4,294,967,290: reading 4 busy, 5 code 1."
     ∷ case 3 (withTimeOut 10 4294967290 (working 4) shows row 2 1 Executing busy 0 (event Start 0 0 ∷ []) ∷ [])
-    ∷ case 3 (withTimeOut 10 4294967290 (working 5) shows row 3 1 Error failed 1 (event Start 0 0 ∷ event Failed 1 0 ∷ []) ∷ [])
+    ∷ case 3 (withTimeOut 10 4294967290 (working 5) shows row 3 1 Error failed TimedOut (event Start 0 0 ∷ event Failed TimedOut 0 ∷ []) ∷ [])
     -- "C12 kind 9 working, then start 0, abort complete: 3 passes, withdrawn."
     ∷ case 9
     (withJob 0 (working 0) shows row 2 1 Executing busy 0 (event Start 0 0 ∷ [])

@@ -38,7 +38,8 @@ impl Entry {
 
     pub const ERROR: u8 = 2;
 
-    pub const MOST_PIECES: u8 = 4;
+    // The greatest count.
+    pub const MOST_PIECES: u8 = PIECES as u8;
 
     // The least code of an error reply.
     pub const LEAST_CODE: u16 = 2;

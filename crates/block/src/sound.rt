@@ -4,7 +4,7 @@ use crate::record::Record;
 use clock::Timer;
 ghost use mathlib.Core.Path.{_≡_};
 ghost use Rattle.block.specs.Record.{Executing, Done, Error, Aborted, Resetting, atStep};
-ghost use Rattle.block.specs.Sound.{only, zeroed, timesSound, canAbort, sound};
+ghost use Rattle.block.specs.Sound.{only, zeroed, timesSound, sound};
 
 // Just these flags are set.
 fn only(f: Flags, busy: bool, done: bool, error: bool, aborted: bool) -> bool
@@ -94,13 +94,6 @@ fn resetting_sound(kind: u8, r: Record) -> bool
     aborted_sound(kind, r)
 }
 
-// The kinds that come to Aborting: those with an abort input, and level kinds.
-fn can_abort(kind: u8) -> bool
-    ensures { λ b. ⌜ b ≡ canAbort kind ⌝ }
-{
-    (5 <= kind) & (kind <= 14)
-}
-
 pub fn sound(kind: u8, r: Record) -> bool
     ensures { λ b. ⌜ b ≡ sound kind r ⌝ }
 {
@@ -110,7 +103,7 @@ pub fn sound(kind: u8, r: Record) -> bool
         Record::EXECUTING => executing_sound(kind, r),
         Record::DONE => done_sound(kind, r),
         Record::ERROR => error_sound(kind, r),
-        Record::ABORTING => can_abort(kind) & executing_sound(kind, r),
+        Record::ABORTING => kind::can_abort(kind) & executing_sound(kind, r),
         Record::ABORTED => aborted_sound(kind, r),
         Record::RESETTING => resetting_sound(kind, r),
         _ => false,

@@ -3,6 +3,7 @@ use Prim.Native.Nat.{ℕ, _+_}
 use mathlib.Core.List.{List}
 use Rattle.words.specs.Word.{numberAt}
 use Rattle.layout.specs.Buffer.{byteAt, jobWidth}
+use Rattle.layout.specs.ReportLayout.{reportOffset}
 use Rattle.layout.specs.EventLayout.{eventOffset}
 use Rattle.conformance.specs.declared.read.Report.{Report}
 use Rattle.conformance.specs.declared.read.Posted.{Posted}
@@ -12,11 +13,11 @@ abbrev pub reportAt : List ℕ → ℕ → Report
 reportAt s at =
     record {
       flags = byteAt s at;
-      used = byteAt s (at + 1);
-      passes = byteAt s (at + 2);
-      step = byteAt s (at + 3);
-      code = numberAt 2 s (at + 4);
-      job = numberAt jobWidth s (at + 8);
+      used = byteAt s (at + reportOffset .used);
+      passes = byteAt s (at + reportOffset .passes);
+      step = byteAt s (at + reportOffset .step);
+      code = numberAt 2 s (at + reportOffset .code);
+      job = numberAt jobWidth s (at + reportOffset .job);
     }
 
 -- "kind (1 start, 2 done, 3 failed, 4 aborted, 5 withdrawn), position, code (2; 0 unless failed), job (4)"

@@ -6,7 +6,7 @@ use crate::text::print;
 use block::entry::Entry;
 use engine::scan::Scanned;
 use image::HEADER_LENGTH;
-use image::KIND;
+use image::KIND_OFFSET;
 use image::SLOT_LENGTH;
 use layout::event::EVENT_BYTES;
 use layout::record::RECORD_BYTES;
@@ -19,7 +19,7 @@ pub const ONE_SLOT: usize = HEADER_LENGTH + SLOT_LENGTH;
 // A table of one block of this kind.
 pub fn image_of(kind: u8) -> [u8; ONE_SLOT] {
     let mut image = *b"\x01\x01\x01\0\0\0\0\0\0\0\0\0LANE1   ";
-    image[HEADER_LENGTH + KIND] = kind;
+    image[HEADER_LENGTH + KIND_OFFSET] = kind;
     image
 }
 

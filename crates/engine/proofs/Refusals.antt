@@ -1,7 +1,7 @@
 -- The rows of specs/Refusals.antt and the calls of specs/ScanExample.antt, computed: for the reader, so that each number of document 01 is seen to be answered for its bytes and at its place.
 use mathlib.Core.Path.{refl}
 use Rattle.words.specs.Word.{number, bytes}
-use Rattle.kind.specs.Kind.{isKind, isEdge, hasAbort, hasTimeLimit, hasTimeOut, isContinuous}
+use Rattle.kind.specs.Kind.{isKind, isEdge, canAbort, hasAbort, hasTimeLimit, hasTimeOut, isContinuous}
 use Rattle.clock.specs.Clock.{since, tick, past, pastLimit, pastTimeOut}
 use Rattle.table.specs.Blocks.{blocksIn, blockIn}
 use Rattle.table.specs.Header.{headerCheck}
@@ -41,7 +41,7 @@ unfolding answersDue answersMade image input freshRows stateRows frameRows buffe
     soundBytes recordForm entryBytes entryForm decodeEntry decodeRecord encodeRecord encodeReport encodeEvents encodeEvent number bytes
     sound zeroed flagsFit codeSound requestSound stepSound timesSound entryFits piecesFit
     callOf callWithin rule dormant executing judge usePieces ended aborting resetting tick since past pastLimit pastTimeOut
-    isKind isEdge hasAbort hasTimeLimit hasTimeOut isContinuous
+    isKind isEdge canAbort hasAbort hasTimeLimit hasTimeOut isContinuous
 computed = (
   record { fresh = refl; states = refl; frames = refl; buffers = refl },
   record { accepted = refl; refused = refl; freshRefused = refl },

@@ -47,11 +47,11 @@ abbrev pub nextOf : List ℕ → ℕ → ℕ
 nextOf image slot = slotByte image slot 1
 
 -- where a wire's two bytes stand
-abbrev pub startWire : ℕ
-startWire = 2
+abbrev pub startWireOffset : ℕ
+startWireOffset = 2
 
-abbrev pub abortWire : ℕ
-abortWire = 4
+abbrev pub abortWireOffset : ℕ
+abortWireOffset = 4
 
 abbrev pub wireSlot : List ℕ → ℕ → ℕ → ℕ
 wireSlot image slot wire = slotByte image slot wire
@@ -60,17 +60,17 @@ abbrev pub wireCode : List ℕ → ℕ → ℕ → ℕ
 wireCode image slot wire = slotByte image slot (wire + 1)
 
 -- where the two zero bytes stand, and the tag
-abbrev pub zeroPlace : ℕ
-zeroPlace = 6
+abbrev pub zeroOffset : ℕ
+zeroOffset = 6
 
-abbrev pub tagPlace : ℕ
-tagPlace = 8
+abbrev pub tagOffset : ℕ
+tagOffset = 8
 
 abbrev pub tagLength : ℕ
 tagLength = 8
 
 abbrev pub tagOf : List ℕ → ℕ → List ℕ
-tagOf image slot = take tagLength (drop (slotStart slot + tagPlace) image)
+tagOf image slot = take tagLength (drop (slotStart slot + tagOffset) image)
 
 -- the image has the header and the slots up to this one; slot 0 stands for the header
 abbrev pub Reaches : List ℕ → ℕ → Type 0

@@ -10,26 +10,26 @@ pub const SLOT_LENGTH: usize = 16;
 pub const MOST_SLOTS: usize = 64;
 
 // Where the fields of the header stand.
-pub const VERSION: usize = 0;
+pub const VERSION_OFFSET: usize = 0;
 
-pub const SLOT_COUNT: usize = 1;
+pub const SLOT_COUNT_OFFSET: usize = 1;
 
-pub const HEAD: usize = 2;
+pub const HEAD_OFFSET: usize = 2;
 
-pub const HEADER_ZERO: usize = 3;
+pub const HEADER_ZERO_OFFSET: usize = 3;
 
 // Where the fields of a slot stand; a wire has two bytes, and there are two zeros.
-pub const KIND: usize = 0;
+pub const KIND_OFFSET: usize = 0;
 
-pub const NEXT: usize = 1;
+pub const NEXT_OFFSET: usize = 1;
 
-pub const START_WIRE: usize = 2;
+pub const START_WIRE_OFFSET: usize = 2;
 
-pub const ABORT_WIRE: usize = 4;
+pub const ABORT_WIRE_OFFSET: usize = 4;
 
-pub const ZERO: usize = 6;
+pub const ZERO_OFFSET: usize = 6;
 
-pub const TAG: usize = 8;
+pub const TAG_OFFSET: usize = 8;
 
 pub const TAG_LENGTH: usize = 8;
 

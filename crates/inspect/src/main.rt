@@ -2,13 +2,19 @@
 ghost use mathlib.Core.Path.{_≡_};
 ghost use Prim.Native.Nat.{_<_};
 ghost use lib.ListN.{length};
+ghost use Rattle.image.specs.Image.{imageLength};
+use image::HEADER_LENGTH;
+use image::SLOT_LENGTH;
 use table::check::Checked;
 use table::lookup::Found;
 use table::place::Place;
 
+// Bytes of an image of two slots.
+const TWO_SLOTS: usize = HEADER_LENGTH + 2 * SLOT_LENGTH;
+
 // Two blocks of kind 1: LANE0 in slot 1, LANEO in slot 2.
-fn two_lanes() -> [u8; 36]
-    ensures { λ r. ⌜ 36 ≡ length r ⌝ }
+fn two_lanes() -> [u8; TWO_SLOTS]
+    ensures { λ r. ⌜ imageLength 2 ≡ length r ⌝ }
 {
     *b"\x01\x02\x01\0\x01\x02\0\0\0\0\0\0LANE0   \x01\0\0\0\0\0\0\0LANEO   "
 }
@@ -93,7 +99,7 @@ fn look_up(tag: &[u8]) {
 
 // The two lanes with one byte changed.
 fn check_changed(name: &[u8], at: usize, byte: u8)
-    requires { ⌜ at < 36 ⌝ }
+    requires { ⌜ at < imageLength 2 ⌝ }
 {
     let mut image = two_lanes();
     image[at] = byte;

@@ -1,4 +1,4 @@
--- Document 01, "Table image": the kinds and their properties.
+-- Document 01, "Table image" and "Sound means": the kinds and their properties.
 use mathlib.Core.Bool.{Bool, _||_}
 use mathlib.Core.List.{List, [], _∷_}
 use Prim.Native.Nat.{ℕ}
@@ -15,6 +15,10 @@ isEdge k = within 1 8 k
 -- "A abort input"
 unfoldable pub hasAbort : ℕ → Bool
 hasAbort k = within 5 8 k
+
+-- "Aborting: kinds 5-14": those with an abort input, and level kinds
+unfoldable pub canAbort : ℕ → Bool
+canAbort k = within 5 14 k
 
 -- the kinds with TI in their names
 abbrev pub timeLimitKinds : List ℕ

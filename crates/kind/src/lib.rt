@@ -1,6 +1,6 @@
 // What a kind byte says of its block. Kinds 1 to 8 are edge blocks, 9 to 14 level blocks.
 ghost use mathlib.Core.Path.{_≡_};
-ghost use Rattle.kind.specs.Kind.{isKind, isEdge, hasAbort, hasTimeLimit, hasTimeOut, isContinuous};
+ghost use Rattle.kind.specs.Kind.{isKind, isEdge, hasAbort, canAbort, hasTimeLimit, hasTimeOut, isContinuous};
 
 // One of the fourteen kinds.
 pub fn is_kind(kind: u8) -> bool
@@ -28,6 +28,16 @@ pub fn has_abort(kind: u8) -> bool
 {
     match kind {
         5..=8 => true,
+        _ => false,
+    }
+}
+
+// Comes to Aborting: a kind with an abort input, or a level block.
+pub fn can_abort(kind: u8) -> bool
+    ensures { λ r. ⌜ r ≡ canAbort kind ⌝ }
+{
+    match kind {
+        5..=14 => true,
         _ => false,
     }
 }

@@ -1,5 +1,5 @@
 -- Checks 21 and 31 on bytes, with several bytes tested as one number. For `sound_bytes`, `entry_bytes` and the functions that they call.
-use Prim.Native.Nat.{ℕ, _+_, _*_, _^_, _≤_, _<_}
+use Prim.Native.Nat.{ℕ, _+_, _-_, _*_, _^_, _≤_, _<_}
 use mathlib.Core.Path.{_≡_, refl, ap, sym, _∙_}
 use mathlib.Core.Bool.{Bool, true, false, _&&_, _||_}
 use mathlib.Core.List.{List, [], _∷_}
@@ -20,7 +20,7 @@ use Rattle.block.proofs.Shapes.{fresh-is}
 use Rattle.block.proofs.SoundSteps.{at-step, at-dormant}
 use Rattle.layout.specs.Buffer.{recordLength, entryLength, jobWidth, byteAt}
 use Rattle.layout.specs.RecordLayout.{flagsByte, decodeFlags, recordOffset, decodeRecord, recordForm, soundBytes}
-use Rattle.layout.specs.EntryLayout.{pieceLength, decodePiece, zeroByte, entryOffset, pieceOffset, decodeEntry, headForm, entryForm, entryBytes}
+use Rattle.layout.specs.EntryLayout.{pieceLength, decodePiece, pieceZero, entryOffset, pieceOffset, decodeEntry, headForm, entryForm, entryBytes}
 use Rattle.layout.proofs.BitLaws.{flags-back}
 use Rattle.membership.proofs.Logic.{and-left, and-right, and-join}
 use Rattle.layout.proofs.RecordLaws.{form-bytes, sound-form, sound-record}
@@ -55,12 +55,17 @@ module _ (s : List ℕ) (i : ℕ) (h : i + 2 ≤ length s) where
 
 -- the form of a record
 pub form-tests : (s : List ℕ) → recordLength ≤ length s
-    → ltb (byteAt s (recordOffset .flags)) 16 && leb (numberAt 2 s (recordOffset .request)) 1 && eqb (numberAt 2 s 10) 0 ≡ recordForm s
+    → ltb (byteAt s (recordOffset .flags)) 16 && leb (numberAt 2 s (recordOffset .request)) 1 && eqb (numberAt 2 s (recordOffset .unnamedPair)) 0
+    ≡ recordForm s
 unfolding recordForm
 form-tests s h =
-    rw (pair-low s (recordOffset .request) (omega arith) 1 (omega arith), pair-zero s 10 (omega arith))
-    (flat (ltb (byteAt s (recordOffset .flags)) 16) (leb (byteAt s (recordOffset .request)) 1) (eqb (byteAt s 3) 0) (eqb (byteAt s 10) 0) (eqb (byteAt s 11) 0))
+    rw (pair-low s (recordOffset .request) (omega arith) 1 (omega arith), pair-zero s (recordOffset .unnamedPair) (omega arith))
+    (flat (ltb (byteAt s (recordOffset .flags)) 16) (leb (byteAt s (recordOffset .request)) 1)
+    (zero (recordOffset .unnamed)) (zero (recordOffset .unnamedPair)) (zero (recordOffset .unnamedPair + 1)))
   where
+    zero : ℕ → Bool
+    zero i = eqb (byteAt s i) 0
+
     flat : (a b c d e : Bool) → a && (b && c) && (d && e) ≡ a && b && c && d && e
     flat false b c d e = refl
     flat true false c d e = refl
@@ -72,8 +77,15 @@ module _ (s : List ℕ) (l : recordLength ≤ length s) where
   abbrev whole : ℕ
   whole = numberAt recordLength s 0
 
+  abbrev wordWidth : ℕ
+  wordWidth = 8
+
+  -- word i, and all from word i on
   abbrev word : ℕ → ℕ
-  word i = numberAt 8 s (8 * i)
+  word i = numberAt wordWidth s (wordWidth * i)
+
+  abbrev wordsFrom : ℕ → ℕ
+  wordsFrom i = numberAt (recordLength - wordWidth * i) s (wordWidth * i)
 
   abbrev byte : ℕ → ℕ
   byte i = byteAt s i
@@ -81,27 +93,27 @@ module _ (s : List ℕ) (l : recordLength ≤ length s) where
   Zeros : Type 0
   Zeros = (word 0 ≡ 0) × (word 1 ≡ 0) × (word 2 ≡ 0) × (word 3 ≡ 0)
 
-  after-first : whole ≡ word 0 + 256 ^ 8 * numberAt 24 s 8
-  after-first = number-split 8 24 s 0 (omega arith)
+  after-first : whole ≡ word 0 + 256 ^ wordWidth * wordsFrom 1
+  after-first = number-split wordWidth (recordLength - wordWidth) s 0 (omega arith)
 
-  after-second : numberAt 24 s 8 ≡ word 1 + 256 ^ 8 * numberAt 16 s 16
-  after-second = number-split 8 16 s 8 (omega arith)
+  after-second : wordsFrom 1 ≡ word 1 + 256 ^ wordWidth * wordsFrom 2
+  after-second = number-split wordWidth (recordLength - wordWidth * 2) s wordWidth (omega arith)
 
-  after-third : numberAt 16 s 16 ≡ word 2 + 256 ^ 8 * word 3
-  after-third = number-split 8 8 s 16 (omega arith)
+  after-third : wordsFrom 2 ≡ word 2 + 256 ^ wordWidth * word 3
+  after-third = number-split wordWidth wordWidth s (wordWidth * 2) (omega arith)
 
   zeros : whole ≡ 0 → Zeros
   unfolding Zeros
   zeros z =
-      let back : numberAt 24 s 8 ≡ 0 = omega (arith, after-first) in
-      let last : numberAt 16 s 16 ≡ 0 = omega (arith, after-second) in
+      let back : wordsFrom 1 ≡ 0 = omega (arith, after-first) in
+      let last : wordsFrom 2 ≡ 0 = omega (arith, after-second) in
       (omega (arith, after-first), omega (arith, after-second), omega (arith, after-third), omega (arith, after-third))
 
   all-zero : Zeros → whole ≡ 0
   unfolding Zeros
   all-zero z =
-      let last : numberAt 16 s 16 ≡ 0 = after-third ∙ rw (z .2, z .3) in
-      let back : numberAt 24 s 8 ≡ 0 = after-second ∙ rw (z .1, last) in
+      let last : wordsFrom 2 ≡ 0 = after-third ∙ rw (z .2, z .3) in
+      let back : wordsFrom 1 ≡ 0 = after-second ∙ rw (z .1, last) in
       after-first ∙ rw (z .0, back)
 
   pub words-zero : eqb (word 0) 0 && eqb (word 1) 0 && eqb (word 2) 0 && eqb (word 3) 0 ≡ eqb whole 0
@@ -129,36 +141,50 @@ module _ (s : List ℕ) (l : recordLength ≤ length s) where
   abbrev last : ℕ
   last = numberAt 4 s (recordOffset .last)
 
-  head-number : word 0 ≡ byte (recordOffset .step) + 256 * byte (recordOffset .flags) + 65536 * byte (recordOffset .request) + 16777216 * byte 3 + 4294967296 * job
-  head-number = omega (arith, number-split 4 4 s 0 (omega arith), number-split 2 2 s 0 (omega arith), two-bytes s 0 (omega arith), two-bytes s 2 (omega arith))
+  head-number : word 0
+      ≡ byte (recordOffset .step) + 256 * byte (recordOffset .flags) + 65536 * byte (recordOffset .request) + 16777216 * byte (recordOffset .unnamed) + 4294967296 * job
+  head-number =
+      omega (
+        arith,
+        number-split 4 jobWidth s (recordOffset .step) (omega arith),
+        number-split 2 2 s (recordOffset .step) (omega arith),
+        two-bytes s (recordOffset .step) (omega arith),
+        two-bytes s (recordOffset .request) (omega arith),
+      )
 
-  code-number : word 1 ≡ code + 65536 * byte 10 + 16777216 * byte 11 + 4294967296 * limit
-  code-number = omega (arith, number-split 4 4 s 8 (omega arith), number-split 2 2 s 8 (omega arith), two-bytes s 10 (omega arith))
+  code-number : word 1 ≡ code + 65536 * byte (recordOffset .unnamedPair) + 16777216 * byte (recordOffset .unnamedPair + 1) + 4294967296 * limit
+  code-number =
+      omega (
+        arith,
+        number-split 4 4 s (recordOffset .code) (omega arith),
+        number-split 2 2 s (recordOffset .code) (omega arith),
+        two-bytes s (recordOffset .unnamedPair) (omega arith),
+      )
 
   times-number : word 2 ≡ timeout + 4294967296 * last
-  times-number = omega (arith, number-split 4 4 s 16 (omega arith))
+  times-number = omega (arith, number-split 4 4 s (recordOffset .timeout) (omega arith))
 
   module _ (k : ℕ) (d : byte (recordOffset .step) ≡ 0) where
     zero-sound : whole ≡ 0 → soundBytes k s ≡ true
     unfolding Zeros soundBytes recordForm decodeRecord sound zeroed flagsFit codeSound requestSound stepSound timesSound
     zero-sound h =
         let z = zeros h in
-        let z1 : byte (recordOffset .flags) ≡ 0 = omega (arith, head-number) in
-        let z2 : byte (recordOffset .request) ≡ 0 = omega (arith, head-number) in
-        let z3 : byte 3 ≡ 0 = omega (arith, head-number) in
+        let flags-is : byte (recordOffset .flags) ≡ 0 = omega (arith, head-number) in
+        let request-is : byte (recordOffset .request) ≡ 0 = omega (arith, head-number) in
+        let unnamed-is : byte (recordOffset .unnamed) ≡ 0 = omega (arith, head-number) in
         let job-is : job ≡ 0 = omega (arith, head-number) in
         let code-is : code ≡ 0 = omega (arith, code-number) in
-        let z10 : byte 10 ≡ 0 = omega (arith, code-number) in
-        let z11 : byte 11 ≡ 0 = omega (arith, code-number) in
+        let first-is : byte (recordOffset .unnamedPair) ≡ 0 = omega (arith, code-number) in
+        let second-is : byte (recordOffset .unnamedPair + 1) ≡ 0 = omega (arith, code-number) in
         let limit-is : limit ≡ 0 = omega (arith, code-number) in
         let timeout-is : timeout ≡ 0 = omega (arith, times-number) in
         let last-is : last ≡ 0 = omega (arith, times-number) in
-        let form : recordForm s ≡ true = rw (z1, z2, z3, z10, z11) in
+        let form : recordForm s ≡ true = rw (flags-is, request-is, unnamed-is, first-is, second-is) in
         let fields : decodeRecord s ≡ freshRecord =
         λ i. record {
           step = d i;
-          flags = decodeFlags (z1 i);
-          request = eqb (z2 i) 1;
+          flags = decodeFlags (flags-is i);
+          request = eqb (request-is i) 1;
           job = job-is i;
           code = code-is i;
           limit = limit-is i;
@@ -174,15 +200,15 @@ module _ (s : List ℕ) (l : recordLength ≤ length s) where
         let r = decodeRecord s in
         let zero : zeroed r ≡ true = sym (at-step k r Dormant d ∙ at-dormant k r) ∙ sound-record k s h in
         let fresh : r ≡ freshRecord = fresh-is r (eq-eqb (byte (recordOffset .step)) 0 d) zero in
-        let z1 : byte (recordOffset .flags) ≡ 0 = sym (flags-back (byte (recordOffset .flags)) (f .flags)) ∙ ap (λ (x : Record). flagsByte (x .flags)) fresh in
-        let z2 : byte (recordOffset .request) ≡ 1 → ⊥ = eqb-false (byte (recordOffset .request)) 1 (ap (λ (x : Record). x .request) fresh) in
+        let flags-is : byte (recordOffset .flags) ≡ 0 = sym (flags-back (byte (recordOffset .flags)) (f .flags)) ∙ ap (λ (x : Record). flagsByte (x .flags)) fresh in
+        let request-is : byte (recordOffset .request) ≡ 1 → ⊥ = eqb-false (byte (recordOffset .request)) 1 (ap (λ (x : Record). x .request) fresh) in
         let job-is : job ≡ 0 = ap (λ (x : Record). x .job) fresh in
         let code-is : code ≡ 0 = ap (λ (x : Record). x .code) fresh in
         let limit-is : limit ≡ 0 = ap (λ (x : Record). x .limit) fresh in
         let timeout-is : timeout ≡ 0 = ap (λ (x : Record). x .timeout) fresh in
         let last-is : last ≡ 0 = ap (λ (x : Record). x .timer .last) fresh in
-        let w0 : word 0 ≡ 0 = omega (arith, head-number, f .request, f .three, z2) in
-        let w1 : word 1 ≡ 0 = omega (arith, code-number, f .ten, f .eleven) in
+        let w0 : word 0 ≡ 0 = omega (arith, head-number, f .request, f .unnamed, request-is) in
+        let w1 : word 1 ≡ 0 = omega (arith, code-number, f .pairFirst, f .pairSecond) in
         let w2 : word 2 ≡ 0 = omega (arith, times-number) in
         let w3 : word 3 ≡ 0 = ap (λ (x : Record). x .timer .elapsed) fresh in
         all-zero (w0, w1, w2, w3)
@@ -201,10 +227,10 @@ module _ (s : List ℕ) (at : ℕ) (l : at + pieceLength ≤ length s) where
   piece-number : numberAt pieceLength s at ≡ byteAt s at + 256 * byteAt s (at + 1) + 65536 * numberAt 2 s (at + 2) + 4294967296 * numberAt 4 s (at + 4)
   piece-number = omega (arith, number-split 4 4 s at (omega arith), number-split 2 2 s at (omega arith), two-bytes s at (omega arith))
 
-  pub piece-within : leb (numberAt 2 s at) ErrorReply && codeFits (byteAt s at) (numberAt 2 s (at + 2)) ≡ zeroByte s at && pieceForm (decodePiece s at)
+  pub piece-within : leb (numberAt 2 s at) ErrorReply && codeFits (byteAt s at) (numberAt 2 s (at + 2)) ≡ pieceZero s at && pieceForm (decodePiece s at)
   piece-within =
       rw (pair-low s at (omega arith) ErrorReply (omega arith))
-      (swapped (leb (byteAt s at) ErrorReply) (zeroByte s at) (codeFits (byteAt s at) (numberAt 2 s (at + 2))))
+      (swapped (leb (byteAt s at) ErrorReply) (pieceZero s at) (codeFits (byteAt s at) (numberAt 2 s (at + 2))))
     where
       swapped : (reply zero code : Bool) → reply && zero && code ≡ zero && (reply && code)
       swapped true true code = refl
@@ -212,7 +238,7 @@ module _ (s : List ℕ) (at : ℕ) (l : at + pieceLength ≤ length s) where
       swapped false true code = refl
       swapped false false code = refl
 
-  pub piece-past : eqb (numberAt pieceLength s at) 0 ≡ zeroByte s at && zeroPiece (decodePiece s at)
+  pub piece-past : eqb (numberAt pieceLength s at) 0 ≡ pieceZero s at && zeroPiece (decodePiece s at)
   piece-past = parts (numberAt pieceLength s at) (byteAt s at) (byteAt s (at + 1)) (numberAt 2 s (at + 2)) (numberAt 4 s (at + 4)) piece-number
     where
       parts : (n a b c d : ℕ) → n ≡ a + 256 * b + 65536 * c + 4294967296 * d → eqb n 0 ≡ eqb b 0 && (eqb a 0 && eqb c 0 && eqb d 0)
@@ -245,8 +271,10 @@ pub piece-uncounted : (n i : ℕ) (p : Piece) (zero : Bool) → n ≤ i → zero
 piece-uncounted n i p zero h = rw (le-ltb i n h)
 
 -- the form of an entry's head
-pub head-form : (s : List ℕ) → entryLength ≤ length s → ltb (byteAt s (entryOffset .inputs)) 4 && eqb (numberAt 2 s 6) 0 ≡ headForm s
-head-form s h = rw (pair-zero s 6 (omega arith)) (flat (ltb (byteAt s (entryOffset .inputs)) 4) (eqb (byteAt s 6) 0) (eqb (byteAt s 7) 0))
+pub head-form : (s : List ℕ) → entryLength ≤ length s → ltb (byteAt s (entryOffset .inputs)) 4 && eqb (numberAt 2 s (entryOffset .unnamedPair)) 0 ≡ headForm s
+head-form s h =
+    rw (pair-zero s (entryOffset .unnamedPair) (omega arith))
+    (flat (ltb (byteAt s (entryOffset .inputs)) 4) (eqb (byteAt s (entryOffset .unnamedPair)) 0) (eqb (byteAt s (entryOffset .unnamedPair + 1)) 0))
   where
     flat : (a b c : Bool) → a && (b && c) ≡ a && b && c
     flat true b c = refl
@@ -257,7 +285,7 @@ abbrev pub headTest : List ℕ → Bool
 headTest s = headForm s && headFits (decodeEntry s)
 
 abbrev pub pieceTest : List ℕ → ℕ → Bool
-pieceTest s i = zeroByte s (pieceOffset i) && pieceFits (byteAt s (entryOffset .count)) i (decodePiece s (pieceOffset i))
+pieceTest s i = pieceZero s (pieceOffset i) && pieceFits (byteAt s (entryOffset .count)) i (decodePiece s (pieceOffset i))
 
 abbrev pub piecesTest : List ℕ → Bool
 piecesTest s = pieceTest s 0 && pieceTest s 1 && pieceTest s 2 && pieceTest s 3
@@ -284,7 +312,7 @@ by-piece true true true true true true true true true false = refl
 entry-tests : (s : List ℕ) → entryBytes s ≡ headTest s && piecesTest s
 unfolding entryBytes entryForm entryFits decodeEntry piecesFit
 entry-tests s =
-    let zero : ℕ → Bool = λ i. zeroByte s (pieceOffset i) in
+    let zero : ℕ → Bool = λ i. pieceZero s (pieceOffset i) in
     let fits : ℕ → Bool = λ i. pieceFits (byteAt s (entryOffset .count)) i (decodePiece s (pieceOffset i)) in
     by-piece (headForm s) (headFits (decodeEntry s)) (zero 0) (fits 0) (zero 1) (fits 1) (zero 2) (fits 2) (zero 3) (fits 3)
 

@@ -15,7 +15,7 @@ use Rattle.block.specs.Entry.{mostPieces, entryFits}
 use Rattle.block.specs.declared.entry.Piece.{Piece}
 use Rattle.block.specs.declared.entry.Entry.{Entry}
 use Rattle.layout.specs.Buffer.{entryLength, byteAt, put, jobWidth}
-use Rattle.layout.specs.EntryLayout.{pieceLength, entryOffset, headLength, pieceOffset, piecesEnd, zeroByte, entryForm, entryBytes}
+use Rattle.layout.specs.EntryLayout.{pieceLength, entryOffset, headLength, pieceOffset, piecesEnd, pieceZero, entryForm, entryBytes}
 use Rattle.layout.specs.EntryLayout.{encodePiece, decodePiece, encodePieces, inputsByte, encodeEntry, decodeEntry}
 use Rattle.layout.proofs.Fits.{All, nil, cons, PieceFits, EntryFits}
 use Rattle.layout.proofs.BitLaws.{inputs-bound, inputs-trip, inputs-back}
@@ -62,8 +62,8 @@ decode-encode e h =
 -- what the form of the bytes says
 pub record FormBytes (s : List ℕ) : Type 0 where
   pub inputs : byteAt s (entryOffset .inputs) < 4
-  pub six : byteAt s 6 ≡ 0
-  pub seven : byteAt s 7 ≡ 0
+  pub pairFirst : byteAt s (entryOffset .unnamedPair) ≡ 0
+  pub pairSecond : byteAt s (entryOffset .unnamedPair + 1) ≡ 0
   pub first : byteAt s (pieceOffset 0 + 1) ≡ 0
   pub second : byteAt s (pieceOffset 1 + 1) ≡ 0
   pub third : byteAt s (pieceOffset 2 + 1) ≡ 0
@@ -73,15 +73,15 @@ pub form-bytes : (s : List ℕ) → entryForm s ≡ true → FormBytes s
 unfolding entryForm
 form-bytes s h =
     let inputs = byteAt s (entryOffset .inputs) in
-    let six = eqb (byteAt s 6) 0 in
-    let seven = eqb (byteAt s 7) 0 in
-    let z : ℕ → Bool = λ i. zeroByte s (pieceOffset i) in
+    let first = byteAt s (entryOffset .unnamedPair) in
+    let second = byteAt s (entryOffset .unnamedPair + 1) in
+    let z : ℕ → Bool = λ i. pieceZero s (pieceOffset i) in
     let at : ℕ → ℕ = λ i. byteAt s (pieceOffset i + 1) in
-    let p = each (ltb inputs 4) (six ∷ seven ∷ z 0 ∷ z 1 ∷ z 2 ∷ z 3 ∷ []) h in
+    let p = each (ltb inputs 4) (eqb first 0 ∷ eqb second 0 ∷ z 0 ∷ z 1 ∷ z 2 ∷ z 3 ∷ []) h in
     record {
       inputs = ltb-true inputs 4 (p .0);
-      six = eqb-true (byteAt s 6) 0 (p .1 .0);
-      seven = eqb-true (byteAt s 7) 0 (p .1 .1 .0);
+      pairFirst = eqb-true first 0 (p .1 .0);
+      pairSecond = eqb-true second 0 (p .1 .1 .0);
       first = eqb-true (at 0) 0 (p .1 .1 .1 .0);
       second = eqb-true (at 1) 0 (p .1 .1 .1 .1 .0);
       third = eqb-true (at 2) 0 (p .1 .1 .1 .1 .1 .0);
@@ -112,8 +112,8 @@ encode-decode s l b h =
     (byte-back (entryOffset .abortReply) _ s _ (omega arith) refl
     (byte-back (entryOffset .resetReply) _ s _ (omega arith) refl
     (field-back 2 (entryOffset .abortCode) s _ b (omega arith)
-    (byte-back 6 _ s _ (omega arith) (sym (f .six))
-    (byte-back 7 _ s _ (omega arith) (sym (f .seven))
+    (byte-back (entryOffset .unnamedPair) _ s _ (omega arith) (sym (f .pairFirst))
+    (byte-back (entryOffset .unnamedPair + 1) _ s _ (omega arith) (sym (f .pairSecond))
     (field-back jobWidth (entryOffset .job) s _ b (omega arith)
     (field-back 4 (entryOffset .limit) s _ b (omega arith)
     (field-back 4 (entryOffset .timeout) s _ b (omega arith)

@@ -1,5 +1,5 @@
 -- State records as bytes, and back: each undoes the other, and which bytes pass check 21. For the engine, which keeps records in the state buffer.
-use Prim.Native.Nat.{ℕ, _<_, _≤_}
+use Prim.Native.Nat.{ℕ, _+_, _<_, _≤_}
 use mathlib.Core.Path.{_≡_, refl, ap, sym, _∙_}
 use mathlib.Core.Bool.{true, _&&_}
 use mathlib.Core.List.{List}
@@ -41,28 +41,31 @@ decode-encode r h =
 pub record FormBytes (s : List ℕ) : Type 0 where
   pub flags : byteAt s (recordOffset .flags) < 16
   pub request : byteAt s (recordOffset .request) ≤ 1
-  pub three : byteAt s 3 ≡ 0
-  pub ten : byteAt s 10 ≡ 0
-  pub eleven : byteAt s 11 ≡ 0
+  pub unnamed : byteAt s (recordOffset .unnamed) ≡ 0
+  pub pairFirst : byteAt s (recordOffset .unnamedPair) ≡ 0
+  pub pairSecond : byteAt s (recordOffset .unnamedPair + 1) ≡ 0
 
 pub form-bytes : (s : List ℕ) → recordForm s ≡ true → FormBytes s
 unfolding recordForm
 form-bytes s h =
     let flags = byteAt s (recordOffset .flags) in
     let request = byteAt s (recordOffset .request) in
+    let unnamed = byteAt s (recordOffset .unnamed) in
+    let first = byteAt s (recordOffset .unnamedPair) in
+    let second = byteAt s (recordOffset .unnamedPair + 1) in
     let f = ltb flags 16 in
     let q = f && leb request 1 in
-    let t = q && eqb (byteAt s 3) 0 in
-    let u = t && eqb (byteAt s 10) 0 in
-    let hu : u ≡ true = and-left u (eqb (byteAt s 11) 0) h in
-    let ht : t ≡ true = and-left t (eqb (byteAt s 10) 0) hu in
-    let hq : q ≡ true = and-left q (eqb (byteAt s 3) 0) ht in
+    let t = q && eqb unnamed 0 in
+    let u = t && eqb first 0 in
+    let hu : u ≡ true = and-left u (eqb second 0) h in
+    let ht : t ≡ true = and-left t (eqb first 0) hu in
+    let hq : q ≡ true = and-left q (eqb unnamed 0) ht in
     record {
       flags = ltb-true flags 16 (and-left f (leb request 1) hq);
       request = leb-true request 1 (and-right f (leb request 1) hq);
-      three = eqb-true (byteAt s 3) 0 (and-right q (eqb (byteAt s 3) 0) ht);
-      ten = eqb-true (byteAt s 10) 0 (and-right t (eqb (byteAt s 10) 0) hu);
-      eleven = eqb-true (byteAt s 11) 0 (and-right u (eqb (byteAt s 11) 0) h);
+      unnamed = eqb-true unnamed 0 (and-right q (eqb unnamed 0) ht);
+      pairFirst = eqb-true first 0 (and-right t (eqb first 0) hu);
+      pairSecond = eqb-true second 0 (and-right u (eqb second 0) h);
     }
 
 pub encode-decode : (s : List ℕ) → length s ≡ recordLength → Bytes s → recordForm s ≡ true → encodeRecord (decodeRecord s) ≡ s
@@ -72,11 +75,11 @@ encode-decode s l b h =
     byte-back (recordOffset .step) _ s _ (omega arith) refl
     (byte-back (recordOffset .flags) _ s _ (omega arith) (flags-back (byteAt s (recordOffset .flags)) (f .flags))
     (byte-back (recordOffset .request) _ s _ (omega arith) (bit-back (byteAt s (recordOffset .request)) (f .request))
-    (byte-back 3 _ s _ (omega arith) (sym (f .three))
+    (byte-back (recordOffset .unnamed) _ s _ (omega arith) (sym (f .unnamed))
     (field-back jobWidth (recordOffset .job) s _ b (omega arith)
     (field-back 2 (recordOffset .code) s _ b (omega arith)
-    (byte-back 10 _ s _ (omega arith) (sym (f .ten))
-    (byte-back 11 _ s _ (omega arith) (sym (f .eleven))
+    (byte-back (recordOffset .unnamedPair) _ s _ (omega arith) (sym (f .pairFirst))
+    (byte-back (recordOffset .unnamedPair + 1) _ s _ (omega arith) (sym (f .pairSecond))
     (field-back 4 (recordOffset .limit) s _ b (omega arith)
     (field-back 4 (recordOffset .timeout) s _ b (omega arith)
     (field-back 4 (recordOffset .last) s _ b (omega arith)

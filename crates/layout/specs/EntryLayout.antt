@@ -22,9 +22,9 @@ encodePiece p = p .reply ∷ 0 ∷ [] ++ (bytes 2 (p .code) ++ bytes 4 (p .clock
 abbrev pub decodePiece : List ℕ → ℕ → Piece
 decodePiece s at = record { reply = byteAt s at; code = numberAt 2 s (at + 2); clock = numberAt 4 s (at + 4) }
 
--- its zero byte
-abbrev pub zeroByte : List ℕ → ℕ → Bool
-zeroByte s at = eqb (byteAt s (at + 1)) 0
+-- whether its zero byte is zero
+abbrev pub pieceZero : List ℕ → ℕ → Bool
+pieceZero s at = eqb (byteAt s (at + 1)) 0
 
 unfoldable pub encodePieces : List Piece → List ℕ
 encodePieces [] = []
@@ -37,13 +37,14 @@ inputsByte i = bit (i .start) + 2 * bit (i .abort)
 abbrev pub decodeInputs : ℕ → Inputs
 decodeInputs b = record { start = bitOf b 1; abort = bitOf b 2 }
 
--- where each field begins
+-- where each field begins, and the two unnamed bytes after the abort code
 pub record EntryOffsets : Type 0 where
   pub inputs : ℕ
   pub count : ℕ
   pub abortReply : ℕ
   pub resetReply : ℕ
   pub abortCode : ℕ
+  pub unnamedPair : ℕ
   pub job : ℕ
   pub limit : ℕ
   pub timeout : ℕ
@@ -53,7 +54,7 @@ pub record EntryOffsets : Type 0 where
 -- "1 piece count n, 0 to 4; 2 abort reply; 3 reset reply; 4-5 abort error code; 8-11 job ...; 12-15 time limit; 16-19 time-out; 20-23 clock at the call; from 24, four pieces of 8"
 abbrev pub entryOffset : EntryOffsets
 entryOffset =
-    record { inputs = 0; count = 1; abortReply = 2; resetReply = 3; abortCode = 4; job = 8; limit = 12; timeout = 16; clock = 20; pieces = 24 }
+    record { inputs = 0; count = 1; abortReply = 2; resetReply = 3; abortCode = 4; unnamedPair = 6; job = 8; limit = 12; timeout = 16; clock = 20; pieces = 24 }
 
 -- the bytes before the pieces; piece i, from 0; the end of the four
 abbrev pub headLength : ℕ
@@ -93,11 +94,12 @@ decodeEntry s =
 
 -- "others zero"; the unnamed bytes are zero, before the pieces
 abbrev pub headForm : List ℕ → Bool
-headForm s = ltb (byteAt s (entryOffset .inputs)) 4 && eqb (byteAt s 6) 0 && eqb (byteAt s 7) 0
+headForm s =
+    ltb (byteAt s (entryOffset .inputs)) 4 && eqb (byteAt s (entryOffset .unnamedPair)) 0 && eqb (byteAt s (entryOffset .unnamedPair + 1)) 0
 
 -- and in each piece
 unfoldable pub entryForm : List ℕ → Bool
-entryForm s = headForm s && zeroByte s (pieceOffset 0) && zeroByte s (pieceOffset 1) && zeroByte s (pieceOffset 2) && zeroByte s (pieceOffset 3)
+entryForm s = headForm s && pieceZero s (pieceOffset 0) && pieceZero s (pieceOffset 1) && pieceZero s (pieceOffset 2) && pieceZero s (pieceOffset 3)
 
 -- check 31 of one entry
 unfoldable pub entryBytes : List ℕ → Bool

@@ -21,13 +21,15 @@ flagsByte f = bit (f .busy) + 2 * bit (f .done) + 4 * bit (f .error) + 8 * bit (
 abbrev pub decodeFlags : ℕ → Flags
 decodeFlags b = record { busy = bitOf b 1; done = bitOf b 2; error = bitOf b 4; aborted = bitOf b 8 }
 
--- where each field begins
+-- where each field begins, and the unnamed bytes: one after the request, two after the code
 pub record RecordOffsets : Type 0 where
   pub step : ℕ
   pub flags : ℕ
   pub request : ℕ
+  pub unnamed : ℕ
   pub job : ℕ
   pub code : ℕ
+  pub unnamedPair : ℕ
   pub limit : ℕ
   pub timeout : ℕ
   pub last : ℕ
@@ -35,7 +37,7 @@ pub record RecordOffsets : Type 0 where
 
 -- "0 step ...; 1 flags ...; 2 reset request, 0 or 1; 4-7 job; 8-9 error code; 12-15 time limit and 16-19 time-out taken at the start; 20-23 last clock reading; 24-31 elapsed."
 abbrev pub recordOffset : RecordOffsets
-recordOffset = record { step = 0; flags = 1; request = 2; job = 4; code = 8; limit = 12; timeout = 16; last = 20; elapsed = 24 }
+recordOffset = record { step = 0; flags = 1; request = 2; unnamed = 3; job = 4; code = 8; unnamedPair = 10; limit = 12; timeout = 16; last = 20; elapsed = 24 }
 
 unfoldable pub encodeRecord : Record → List ℕ
 encodeRecord r =
@@ -66,9 +68,9 @@ unfoldable pub recordForm : List ℕ → Bool
 recordForm s =
     ltb (byteAt s (recordOffset .flags)) 16
     && leb (byteAt s (recordOffset .request)) 1
-    && eqb (byteAt s 3) 0
-    && eqb (byteAt s 10) 0
-    && eqb (byteAt s 11) 0
+    && eqb (byteAt s (recordOffset .unnamed)) 0
+    && eqb (byteAt s (recordOffset .unnamedPair)) 0
+    && eqb (byteAt s (recordOffset .unnamedPair + 1)) 0
 
 -- check 21 of one record of a kind
 unfoldable pub soundBytes : ℕ → List ℕ → Bool

@@ -6,7 +6,19 @@ use Rattle.block.specs.Call.{Outcome}
 use Rattle.layout.specs.Buffer.{byteAt, jobWidth}
 use Rattle.layout.specs.RecordLayout.{flagsByte}
 
+-- where each field begins
+pub record ReportOffsets : Type 0 where
+  pub flags : ℕ
+  pub used : ℕ
+  pub passes : ℕ
+  pub step : ℕ
+  pub code : ℕ
+  pub job : ℕ
+
 -- "flags, pieces used, passes, step, code (2), zero (2), job (4), the record's fields as the call leaves them"
+abbrev pub reportOffset : ReportOffsets
+reportOffset = record { flags = 0; used = 1; passes = 2; step = 3; code = 4; job = 8 }
+
 unfoldable pub encodeReport : Outcome → List ℕ
 encodeReport o =
     (flagsByte (o .next .flags) ∷ o .used ∷ o .passes ∷ o .next .step ∷ [])
@@ -14,7 +26,7 @@ encodeReport o =
 
 -- the pieces used and the passes, as a report entry states them
 abbrev pub reportedPieces : List ℕ → ℕ
-reportedPieces s = byteAt s 1
+reportedPieces s = byteAt s (reportOffset .used)
 
 abbrev pub reportedPasses : List ℕ → ℕ
-reportedPasses s = byteAt s 2
+reportedPasses s = byteAt s (reportOffset .passes)

@@ -10,7 +10,7 @@ ghost use Prim.Native.Nat.{_+_, _≤_};
 ghost use lib.ListN.{length, take, drop};
 ghost use Rattle.block.specs.Entry.{pieceForm, pieceFits, headFits};
 ghost use Rattle.layout.specs.Buffer.{entryLength, put};
-ghost use Rattle.layout.specs.EntryLayout.{pieceLength, headLength, piecesEnd, headForm, zeroByte};
+ghost use Rattle.layout.specs.EntryLayout.{pieceLength, headLength, piecesEnd, headForm, pieceZero};
 ghost use Rattle.layout.specs.EntryLayout.{inputsByte, decodeInputs, encodePiece, decodePiece, encodePieces, encodeEntry, decodeEntry, entryBytes};
 
 // Bytes of a frame entry, and of each of its four pieces, which stand after its head.
@@ -33,6 +33,8 @@ const ABORT_REPLY_OFFSET: usize = 2;
 const RESET_REPLY_OFFSET: usize = 3;
 
 const ABORT_CODE_OFFSET: usize = 4;
+
+const UNNAMED_PAIR_OFFSET: usize = 6;
 
 const JOB_OFFSET: usize = 8;
 
@@ -100,7 +102,7 @@ fn head_fits(s: &[u8]) -> bool
     requires { ⌜ entryLength ≤ length (now s) ⌝ }
     ensures { λ r. ⌜ r ≡ headForm (now (s .entry)) && headFits (decodeEntry (now (s .entry))) ⌝ }
 {
-    let form = (s[INPUTS_OFFSET] < 4) & (words::u16_at(s, 6) == 0);
+    let form = (s[INPUTS_OFFSET] < 4) & (words::u16_at(s, UNNAMED_PAIR_OFFSET) == 0);
     let replies = (s[COUNT_OFFSET] <= Entry::MOST_PIECES)
         & (s[ABORT_REPLY_OFFSET] <= Entry::ERROR)
         & (s[RESET_REPLY_OFFSET] <= Entry::COMPLETE);
@@ -111,7 +113,7 @@ fn head_fits(s: &[u8]) -> bool
 // A piece of the count: its reply and the zero byte after it, then its code.
 fn piece_form(s: &[u8], at: usize) -> bool
     requires { ⌜ at + pieceLength ≤ length (now s) ⌝ }
-    ensures { λ r. ⌜ r ≡ zeroByte (now (s .entry)) at && pieceForm (decodePiece (now (s .entry)) at) ⌝ }
+    ensures { λ r. ⌜ r ≡ pieceZero (now (s .entry)) at && pieceForm (decodePiece (now (s .entry)) at) ⌝ }
 {
     (words::u16_at(s, at) <= MOST_REPLY) & block::entry::code_fits(s[at], words::u16_at(s, at + 2))
 }
@@ -119,7 +121,7 @@ fn piece_form(s: &[u8], at: usize) -> bool
 // Piece `i` of an entry that has `count` of them, at its place; a piece past the count is zero.
 fn piece_fits(s: &[u8], at: usize, i: u8, count: u8) -> bool
     requires { ⌜ at + pieceLength ≤ length (now s) ⌝ }
-    ensures { λ r. ⌜ r ≡ zeroByte (now (s .entry)) at && pieceFits count i (decodePiece (now (s .entry)) at) ⌝ }
+    ensures { λ r. ⌜ r ≡ pieceZero (now (s .entry)) at && pieceFits count i (decodePiece (now (s .entry)) at) ⌝ }
 {
     if i < count {
         return piece_form(s, at);

@@ -25,6 +25,9 @@ const JOB_OFFSET: usize = 4;
 
 const CODE_OFFSET: usize = 8;
 
+// Two unnamed bytes; one more stands after the request.
+const UNNAMED_PAIR_OFFSET: usize = 10;
+
 const LIMIT_OFFSET: usize = 12;
 
 const TIME_OUT_OFFSET: usize = 16;
@@ -137,7 +140,9 @@ fn record_form(s: &[u8]) -> bool
     requires { ⌜ recordLength ≤ length (now s) ⌝ }
     ensures { λ r. ⌜ r ≡ recordForm (now (s .entry)) ⌝ }
 {
-    (s[FLAGS_OFFSET] < 16) & (words::u16_at(s, REQUEST_OFFSET) <= 1) & (words::u16_at(s, 10) == 0)
+    (s[FLAGS_OFFSET] < 16)
+        & (words::u16_at(s, REQUEST_OFFSET) <= 1)
+        & (words::u16_at(s, UNNAMED_PAIR_OFFSET) == 0)
 }
 
 // All the bytes are zero, read eight at a time.

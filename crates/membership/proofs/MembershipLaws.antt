@@ -1,4 +1,5 @@
 -- A value computed of a range of numbers holds of each of them, and membership in a list by its cases: for the proofs of the functions of crate kind.
+-- The bounds of what is within a range: for the header and the kinds of a table.
 use mathlib.Core.Path.{_≡_, _∙_, subst, sym, refl}
 use mathlib.Core.Bool.{Bool, true, false, not, _&&_, or-true}
 use mathlib.Core.List.{List, [], _∷_}
@@ -6,11 +7,16 @@ use mathlib.Core.Logic.{inl, inr}
 use Prim.Native.Nat.{ℕ, zero, suc, _+_, _-_, _<_, _≤_}
 use native.Mathlib.Nat.{add-zero, add-suc, suc-add, le-of-suc-le-suc, not-suc-le-zero}
 use native.Mathlib.Omega.{arith}
-use lib.Dec.{eqb}
-use borrow.Author.Tests.{ne-eqb, eq-eqb}
+use lib.Dec.{leb, eqb}
+use borrow.Author.Tests.{ne-eqb, eq-eqb, leb-true}
 use types.Run.{OneOf}
-use Rattle.membership.specs.Membership.{among}
+use Rattle.membership.specs.Membership.{within, among}
 use Rattle.membership.proofs.Logic.{and-left, and-right}
+
+-- a number within a range is neither below nor above it
+pub within-bounds : (first last k : ℕ) → within first last k ≡ true → (first ≤ k) × (k ≤ last)
+within-bounds first last k h =
+    (leb-true first k (and-left (leb first k) (leb k last) h), leb-true k last (and-right (leb first k) (leb k last) h))
 
 -- f holds at first and the n - 1 numbers after it
 abbrev pub throughout : (ℕ → Bool) → ℕ → ℕ → Bool

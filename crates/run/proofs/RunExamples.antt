@@ -1,7 +1,7 @@
 -- The lists of scans of specs/RunExamples, WireExamples and SelfWireExamples, computed from the bytes of the table, the lent buffer and the frames: for
 -- the reader, so that the run promise is seen not to be empty.
 use mathlib.Core.Path.{refl}
-use Rattle.kind.specs.Kind.{isKind, isEdge, hasAbort, hasTimeLimit, hasTimeOut, isContinuous}
+use Rattle.kind.specs.Kind.{isKind, isEdge, canAbort, hasAbort, hasTimeLimit, hasTimeOut, isContinuous}
 use Rattle.clock.specs.Clock.{since, tick, past, pastLimit, pastTimeOut}
 use Rattle.words.specs.Word.{number, bytes}
 use Rattle.table.specs.Blocks.{blocksIn, blockIn}
@@ -52,7 +52,7 @@ unfolding image buffer starts isDone damaged fails rests isLate isAborted works 
     sound zeroed flagsFit codeSound requestSound stepSound timesSound entryFits piecesFit
     callOf callWithin rule dormant executing judge usePieces ended aborting resetting
     timerOf timeOutInForce takenTimeOut tickAll clocksOf hasStart tick since past pastLimit pastTimeOut
-    isKind isEdge hasAbort hasTimeLimit hasTimeOut isContinuous
+    isKind isEdge canAbort hasAbort hasTimeLimit hasTimeOut isContinuous
 computed = (
   record { made = refl; answers = refl; journal = refl; passes = refl; wired = refl; state = refl; step = refl; elapsed = refl; inForce = refl },
   record {

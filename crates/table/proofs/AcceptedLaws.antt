@@ -6,14 +6,14 @@ use mathlib.Core.List.{List, [], _∷_, _++_, append-assoc, append-nil}
 use mathlib.Core.Bool.{Bool, true, false}
 use mathlib.Core.Logic.{_⊎_, inl, inr}
 use native.Mathlib.Omega.{arith}
-use borrow.Author.Tests.{eqb-true, leb-true, ltb-true, ltb-false}
-use lib.Dec.{leb, ltb, eqb}
+use borrow.Author.Tests.{eqb-true, ltb-true, ltb-false}
+use lib.Dec.{ltb, eqb}
 use lib.ListN.{length, getD, take}
 use lib.Seq.{getD-take, length-take-le}
 use Rattle.kind.specs.Kind.{isKind, hasAbort}
 use Rattle.membership.specs.Membership.{among}
 use Rattle.table.specs.Place.{thenCheck}
-use Rattle.image.specs.Image.{mostSlots, slotCount, kindOf, wireSlot, wireCode, startWire, abortWire, tagOf, HasSlot}
+use Rattle.image.specs.Image.{mostSlots, slotCount, kindOf, wireSlot, wireCode, startWireOffset, abortWireOffset, tagOf, HasSlot}
 use Rattle.table.specs.Header.{headerCheck, HeaderOk}
 use Rattle.table.specs.Tag.{tagForm, sameBytes}
 use Rattle.table.specs.Walk.{walked}
@@ -22,12 +22,13 @@ use Rattle.table.specs.Record.{kindOk, tagAmong, noWire, wireOk, startOk
 use Rattle.table.specs.Spare.{sparesCheck}
 use Rattle.table.specs.Check.{verdictOf, checkOf}
 use Rattle.table.specs.Blocks.{fromFrame, wireOf, blockIn, blocksOf, blockAt}
-use Rattle.table.specs.Accepted.{RecordOk, WireOf}
+use Rattle.table.specs.Table.{RecordOk, WireFits}
 use Rattle.table.specs.declared.place.Place.the-variants.{Slot}
 use Rattle.table.specs.declared.place.Verdict.{Verdict}
 use Rattle.table.specs.declared.place.Verdict.the-variants.{Passed}
 use Rattle.table.specs.declared.check.Checked.the-variants.{Blocks}
 use Rattle.membership.proofs.Logic.{by-test, not-both, and-left, and-right}
+use Rattle.membership.proofs.MembershipLaws.{within-bounds}
 use Rattle.table.proofs.Logic.{not-failed, group-passes, rest-passes}
 use Rattle.membership.proofs.AmongLaws.{all-at, all-among}
 use Rattle.table.proofs.PositionLaws.{position-bound, position-some}
@@ -74,8 +75,8 @@ none-among image tag (k ∷ slots) e (suc j) l q =
     (λ s. none-among image tag slots (simp s at e) j (omega arith) q)
 
 -- a wire that passed is one of a table of as many blocks as the chain has
-pub wire-of : (image : List ℕ) (n slot code : ℕ) → length (chainOf image) ≡ n → wireOk (chainOf image) slot code ≡ true → WireOf n (wireOf (chainOf image) slot code)
-wire-of image n slot code e h =
+pub wire-fits : (image : List ℕ) (n slot code : ℕ) → length (chainOf image) ≡ n → wireOk (chainOf image) slot code ≡ true → WireFits n (wireOf (chainOf image) slot code)
+wire-fits image n slot code e h =
     by-test (eqb slot 0)
     (λ z. simp z (record { within = omega arith; flag = omega arith; frame = λ q. refl }))
     (λ z. let m : among slot (chainOf image) ≡ true = and-left _ _ (simp z at h) in
@@ -92,12 +93,12 @@ source-in image slot code h =
     (λ z. all-among (slotCount image) (chainOf image) slot (chain-in image) (and-left _ _ (simp z at h)) .1)
 
 -- an abort wire is a wire, also where it has to be none
-pub abort-wire-ok : (image chain : List ℕ) (slot : ℕ) → abortOk image chain slot ≡ true → wireOk chain (wireSlot image slot abortWire) (wireCode image slot abortWire) ≡ true
+pub abort-wire-ok : (image chain : List ℕ) (slot : ℕ) → abortOk image chain slot ≡ true → wireOk chain (wireSlot image slot abortWireOffset) (wireCode image slot abortWireOffset) ≡ true
 abort-wire-ok image chain slot h =
     by-test (hasAbort (kindOf image slot)) (λ a. simp a at h)
-    (λ a. let g : noWire (wireSlot image slot abortWire) (wireCode image slot abortWire) ≡ true = simp a at h in
-    let z : eqb (wireSlot image slot abortWire) 0 ≡ true = and-left _ (eqb (wireCode image slot abortWire) 0) g in
-    simp z (and-right (eqb (wireSlot image slot abortWire) 0) (eqb (wireCode image slot abortWire) 0) g))
+    (λ a. let g : noWire (wireSlot image slot abortWireOffset) (wireCode image slot abortWireOffset) ≡ true = simp a at h in
+    let z : eqb (wireSlot image slot abortWireOffset) 0 ≡ true = and-left _ (eqb (wireCode image slot abortWireOffset) 0) g in
+    simp z (and-right (eqb (wireSlot image slot abortWireOffset) 0) (eqb (wireCode image slot abortWireOffset) 0) g))
 
 module _ (image : List ℕ) (n : ℕ) (ok : checkOf image ≡ Blocks n) where
   passed : verdictOf image ≡ Passed
@@ -174,22 +175,21 @@ module _ (image : List ℕ) (n : ℕ) (ok : checkOf image ≡ Blocks n) where
 
     pub accepted-kind-range : (1 ≤ blockAt (blocksOf image) i .kind) × (blockAt (blocksOf image) i .kind ≤ 14)
     unfolding isKind
-    accepted-kind-range =
-        let k = blockAt (blocksOf image) i .kind in
-        (leb-true 1 k (and-left (leb 1 k) (leb k 14) accepted-kind), leb-true k 14 (and-right (leb 1 k) (leb k 14) accepted-kind))
+    accepted-kind-range = within-bounds 1 14 (blockAt (blocksOf image) i .kind) accepted-kind
 
     -- wires
-    pub accepted-start : WireOf n (blockAt (blocksOf image) i .start)
+    pub accepted-start : WireFits n (blockAt (blocksOf image) i .start)
     unfolding blockIn
     accepted-start =
         let slot = getD (chainOf image) i 0 in
-        rw accepted-block (wire-of image n (wireSlot image slot startWire) (wireCode image slot startWire) accepted-count (accepted-record .start))
+        rw accepted-block (wire-fits image n (wireSlot image slot startWireOffset) (wireCode image slot startWireOffset) accepted-count (accepted-record .start))
 
-    pub accepted-abort : WireOf n (blockAt (blocksOf image) i .abort)
+    pub accepted-abort : WireFits n (blockAt (blocksOf image) i .abort)
     unfolding blockIn
     accepted-abort =
         let slot = getD (chainOf image) i 0 in
-        rw accepted-block (wire-of image n (wireSlot image slot abortWire) (wireCode image slot abortWire) accepted-count (abort-wire-ok image (chainOf image) slot (accepted-record .abort)))
+        let wired = abort-wire-ok image (chainOf image) slot (accepted-record .abort) in
+        rw accepted-block (wire-fits image n (wireSlot image slot abortWireOffset) (wireCode image slot abortWireOffset) accepted-count wired)
 
     -- "Kinds 1-4 and 9-14 have no abort wire"
     pub accepted-no-abort : hasAbort (blockAt (blocksOf image) i .kind) ≡ false → blockAt (blocksOf image) i .abort ≡ fromFrame
@@ -197,17 +197,17 @@ module _ (image : List ℕ) (n : ℕ) (ok : checkOf image ≡ Blocks n) where
     accepted-no-abort e =
         let slot = getD (chainOf image) i 0 in
         let a : hasAbort (kindOf image slot) ≡ false = rw accepted-block at e in
-        let z : eqb (wireSlot image slot abortWire) 0 ≡ true = and-left _ (eqb (wireCode image slot abortWire) 0) (simp a at (accepted-record .abort)) in
+        let z : eqb (wireSlot image slot abortWireOffset) 0 ≡ true = and-left _ (eqb (wireCode image slot abortWireOffset) 0) (simp a at (accepted-record .abort)) in
         rw accepted-block (simp z)
 
     -- the slot that a wire names: 0, or of 1 to N
-    pub accepted-source : (wire : ℕ) → (wire ≡ startWire) ⊎ (wire ≡ abortWire) → wireSlot image (getD (chainOf image) i 0) wire ≤ slotCount image
+    pub accepted-source : (wire : ℕ) → (wire ≡ startWireOffset) ⊎ (wire ≡ abortWireOffset) → wireSlot image (getD (chainOf image) i 0) wire ≤ slotCount image
     accepted-source wire (inl e) =
         let slot = getD (chainOf image) i 0 in
-        rw e (source-in image (wireSlot image slot startWire) (wireCode image slot startWire) (accepted-record .start))
+        rw e (source-in image (wireSlot image slot startWireOffset) (wireCode image slot startWireOffset) (accepted-record .start))
     accepted-source wire (inr e) =
         let slot = getD (chainOf image) i 0 in
-        rw e (source-in image (wireSlot image slot abortWire) (wireCode image slot abortWire) (abort-wire-ok image (chainOf image) slot (accepted-record .abort)))
+        rw e (source-in image (wireSlot image slot abortWireOffset) (wireCode image slot abortWireOffset) (abort-wire-ok image (chainOf image) slot (accepted-record .abort)))
 
     -- tags
     pub accepted-tag : tagForm (blockAt (blocksOf image) i .tag) ≡ true

@@ -4,7 +4,7 @@ use mathlib.Core.Path.{_≡_, refl, ap, sym, _∙_, subst}
 use mathlib.Core.List.{List}
 use mathlib.Core.Bool.{_&&_}
 use native.Mathlib.Omega.{arith}
-use borrow.Author.Tests.{eqb-true, leb-true}
+use borrow.Author.Tests.{eqb-true}
 use lib.Dec.{leb, eqb}
 use lib.ListN.{length}
 use Rattle.membership.specs.Membership.{within}
@@ -21,7 +21,8 @@ use Rattle.table.specs.declared.place.Verdict.{Verdict}
 use Rattle.table.specs.declared.place.Verdict.the-variants.{Passed, Failed}
 use Rattle.table.specs.declared.check.Checked.{Checked}
 use Rattle.table.specs.declared.check.Checked.the-variants.{Blocks, Refused}
-use Rattle.membership.proofs.Logic.{by-test, and-left, and-right}
+use Rattle.membership.proofs.Logic.{by-test}
+use Rattle.membership.proofs.MembershipLaws.{within-bounds}
 use Rattle.table.proofs.Logic.{not-failed}
 
 -- what a header has that passed
@@ -33,8 +34,8 @@ header-ok-by image e =
     (λ b. by-test (within 1 mostSlots (slotCount image))
     (λ n. by-test (eqb (length image) (imageLength (slotCount image)))
     (λ l. record {
-      some = leb-true 1 (slotCount image) (and-left _ _ n);
-      few = leb-true (slotCount image) mostSlots (and-right (leb 1 (slotCount image)) _ n);
+      some = within-bounds 1 mostSlots (slotCount image) n .0;
+      few = within-bounds 1 mostSlots (slotCount image) n .1;
       sized = eqb-true (length image) (imageLength (slotCount image)) l;
     })
     (λ l. not-failed _ 4 Header refl (simp (a, b, n, l) at e)))

@@ -6,7 +6,7 @@ use mathlib.Core.List.{List}
 use mathlib.Core.Logic.{_⊎_}
 use native.Mathlib.Omega.{arith}
 use lib.ListN.{getD}
-use Rattle.image.specs.Image.{mostSlots, slotCount, wireSlot, startWire, abortWire, HasSlot}
+use Rattle.image.specs.Image.{mostSlots, slotCount, wireSlot, startWireOffset, abortWireOffset, HasSlot}
 use Rattle.table.specs.Chain.{chainOf}
 use Rattle.table.specs.Check.{Accepted}
 use Rattle.table.specs.Blocks.{blockIn, blocksOf, blockAt}
@@ -15,7 +15,7 @@ use Rattle.table.proofs.AcceptedLaws.{accepted-header-ok, accepted-bloc
 
 -- one of the two wires of a slot
 abbrev pub IsWire : ℕ → Type 0
-IsWire wire = (wire ≡ startWire) ⊎ (wire ≡ abortWire)
+IsWire wire = (wire ≡ startWireOffset) ⊎ (wire ≡ abortWireOffset)
 
 module _ (image : List ℕ) (count : ℕ) (slots positions : List ℕ) (ok : Accepted image count slots positions) (i : ℕ) (l : i < count) where
   pub held-slot : getD slots i 0 ≡ getD (chainOf image) i 0

@@ -8,7 +8,7 @@ pub mod SpareLaws
 pub mod CheckLaws
 pub mod BlockLaws
 pub mod AcceptedLaws
-pub mod Accepted
+pub mod Table
 pub mod HeldLaws
 pub mod AnswerLaws
 pub mod SearchLaws

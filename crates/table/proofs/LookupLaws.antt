@@ -11,7 +11,7 @@ use lib.Dec.{eqb}
 use lib.ListN.{length, getD, take, drop, length-drop}
 use lib.Seq.{take-add, drop-at, drop-drop, length-take-le}
 use Rattle.table.specs.Place.{placeNumber}
-use Rattle.image.specs.Image.{slotLength, slotCount, slotStart, slotBytes, tagPlace, tagLength, tagOf, HasSlot}
+use Rattle.image.specs.Image.{slotLength, slotCount, slotStart, slotBytes, tagOffset, tagLength, tagOf, HasSlot}
 use Rattle.table.specs.Tag.{tagForm, sameBytes}
 use Rattle.table.specs.Chain.{chainOf}
 use Rattle.table.specs.Check.{checkOf}
@@ -176,12 +176,12 @@ no-tag-when image tag f =
     absurd (f .none (tagPosition image tag 1 (chainOf image)) (searched image tag n (tagPosition image tag 1 (chainOf image)) (f .answer) (omega arith) refl)))
 
 -- the second half of a slot is its tag
-slot-tag : (image : List ℕ) (slot : ℕ) → HasSlot image slot → drop tagPlace (slotBytes image slot) ≡ tagOf image slot
+slot-tag : (image : List ℕ) (slot : ℕ) → HasSlot image slot → drop tagOffset (slotBytes image slot) ≡ tagOf image slot
 slot-tag image slot h =
     let own = drop (slotStart slot) image in
-    ap (drop tagPlace) (take-add tagPlace tagLength own)
-    ∙ (drop-at (take tagPlace own) (take tagLength (drop tagPlace own)) tagPlace (length-take-le tagPlace own (rw length-drop (omega arith)))
-    ∙ ap (take tagLength) (drop-drop tagPlace (slotStart slot) image))
+    ap (drop tagOffset) (take-add tagOffset tagLength own)
+    ∙ (drop-at (take tagOffset own) (take tagLength (drop tagOffset own)) tagOffset (length-take-le tagOffset own (rw length-drop (omega arith)))
+    ∙ ap (take tagLength) (drop-drop tagOffset (slotStart slot) image))
 
 pub shown-part : ShowsTag
 shown-part image tag p e =
@@ -191,5 +191,5 @@ shown-part image tag p e =
     let i : p - 1 < n = omega (arith, f .has .first, f .has .last) in
     let h : HasSlot image slot = accepted-has-slot image n (f .answer) (p - 1) i in
     let l : length (slotBytes image slot) ≡ slotLength = length-take-le slotLength (drop (slotStart slot) image) (rw length-drop (omega arith)) in
-    let t : drop tagPlace (slotBytes image slot) ≡ tag = slot-tag image slot h ∙ (sym (block-tag image tag n (p - 1) (f .answer) i) ∙ f .has .same) in
+    let t : drop tagOffset (slotBytes image slot) ≡ tag = slot-tag image slot h ∙ (sym (block-tag image tag n (p - 1) (f .answer) i) ∙ f .has .same) in
     subst (ShownPart tag) (show-some image tag p slot e refl) (record { sized = l; tagged = t })

@@ -16,7 +16,7 @@ use Rattle.image.specs.Image.{slotCount, tagOf, HasSlot}
 use Rattle.table.specs.Header.{HeaderOk}
 use Rattle.table.specs.Tag.{sameBytes}
 use Rattle.table.specs.Chain.{chainOf}
-use Rattle.table.specs.Marks.{markPlace}
+use Rattle.table.specs.Marks.{markCount, markPlace}
 use Rattle.table.specs.Record.{tagAmong, recordCheck, recordsFrom, recordsCheck}
 use Rattle.table.specs.declared.place.Place.{Place}
 use Rattle.table.specs.declared.place.Verdict.{Verdict}
@@ -108,11 +108,11 @@ record-at image chain xs i h = rw (add-one, drop-cons xs i 0 h, take-suc xs i 0 
 -- what the loop keeps: the checks of the records from i on are all that are left, and the tags met are marked
 pub record Recording (image marks : List ℕ) (i : ℕ) : Type 0 where
   pub within : i ≤ length (chainOf image)
-  pub sized : length marks ≡ 128
+  pub sized : length marks ≡ markCount
   pub marked : Marked image marks (take i (chainOf image))
   pub onward : recordsFrom image (chainOf image) (take i (chainOf image)) (drop i (chainOf image)) ≡ recordsCheck image
 
-pub recording-start : (image marks : List ℕ) → length marks ≡ 128 → Recording image marks 0
+pub recording-start : (image marks : List ℕ) → length marks ≡ markCount → Recording image marks 0
 unfolding recordsCheck Marked
 recording-start image marks e = record { within = omega arith; sized = e; marked = tt; onward = refl }
 
@@ -140,7 +140,7 @@ module _ (image marks : List ℕ) (i : ℕ) (hd : HeaderOk image) (by : Bytes im
     recording-failed n p e =
         e ∙ (sym (record-at image (chainOf image) (chainOf image) i l ∙ rw (sym record-is ∙ e)) ∙ r .onward)
 
-    pub recording-on : place < 128 → v ≡ Passed → Recording image (set marks place 1) (i + 1)
+    pub recording-on : place < markCount → v ≡ Passed → Recording image (set marks place 1) (i + 1)
     recording-on f e =
         let w : place < length marks = omega (arith, r .sized) in
         let earlier = take i (chainOf image) in

@@ -11,7 +11,7 @@ use lib.ListN.{take, drop}
 use lib.Seq.{take-add, drop-drop}
 use Rattle.words.specs.Word.{number, numberAt}
 use Rattle.table.specs.Place.{require}
-use Rattle.image.specs.Image.{slotLength, slotCount}
+use Rattle.image.specs.Image.{slotLength, slotCount, tagOffset, tagLength}
 use Rattle.table.specs.Chain.{chainOf}
 use Rattle.table.specs.Spare.{allZero, spareOk, sparesFrom, sparesCheck}
 use Rattle.table.specs.declared.place.Place.the-variants.{Slot}
@@ -34,10 +34,12 @@ unfolding allZero
 zero-append [] u = refl
 zero-append (x ∷ t) u = by-test (eqb x 0) (λ a. simp (a, zero-append t u)) (λ a. simp a)
 
-pub zero-sixteen : (s : List ℕ) (a : ℕ) → allZero (take slotLength (drop a s)) ≡ (eqb (numberAt 8 s a) 0 && eqb (numberAt 8 s (a + 8)) 0)
+-- a slot's bytes: those before the tag, and the tag
+pub zero-sixteen : (s : List ℕ) (a : ℕ)
+    → allZero (take slotLength (drop a s)) ≡ (eqb (numberAt tagOffset s a) 0 && eqb (numberAt tagLength s (a + tagOffset)) 0)
 zero-sixteen s a =
-    ap allZero (take-add 8 8 (drop a s))
-    ∙ (zero-append (take 8 (drop a s)) (take 8 (drop 8 (drop a s)))
+    ap allZero (take-add tagOffset tagLength (drop a s))
+    ∙ (zero-append (take tagOffset (drop a s)) (take tagLength (drop tagOffset (drop a s)))
     ∙ simp (zero-number, drop-drop))
 
 -- one slot, and those above it

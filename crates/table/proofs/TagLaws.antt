@@ -12,7 +12,7 @@ use lib.ListN.{length, getD, drop, length-take, length-drop, List·getD-eq-defau
 use lib.Seq.{drop-cons, drop-length, getD-take, getD-drop, length-take-le}
 use Rattle.words.specs.Word.{Bytes, number}
 use Rattle.words.proofs.WordLaws.{number-injective}
-use Rattle.image.specs.Image.{slotStart, tagPlace, tagLength, tagOf, HasSlot}
+use Rattle.image.specs.Image.{slotStart, tagOffset, tagLength, tagOf, HasSlot}
 use Rattle.table.specs.Tag.{tagChar, spaces, padded, tagText, tagForm, sameBytes}
 use Rattle.membership.proofs.Logic.{by-test, not-both, and-left}
 
@@ -80,11 +80,11 @@ same-number t u e b c =
 
 -- a slot's tag has eight bytes
 pub tag-length : (image : List ℕ) (slot : ℕ) → HasSlot image slot → length (tagOf image slot) ≡ tagLength
-tag-length image slot h = length-take-le tagLength (drop (slotStart slot + tagPlace) image) (rw length-drop (omega arith))
+tag-length image slot h = length-take-le tagLength (drop (slotStart slot + tagOffset) image) (rw length-drop (omega arith))
 
 pub tag-bytes : (image : List ℕ) (slot : ℕ) → Bytes image → Bytes (tagOf image slot)
 tag-bytes image slot b i =
     by-test (ltb i tagLength)
-    (λ a. rw (getD-take tagLength (drop (slotStart slot + tagPlace) image) i 0 (ltb-true i tagLength a), getD-drop) (b (slotStart slot + tagPlace + i)))
-    (λ a. let l : length (tagOf image slot) ≤ i = omega (arith, length-take tagLength (drop (slotStart slot + tagPlace) image), ltb-false i tagLength a) in
+    (λ a. rw (getD-take tagLength (drop (slotStart slot + tagOffset) image) i 0 (ltb-true i tagLength a), getD-drop) (b (slotStart slot + tagOffset + i)))
+    (λ a. let l : length (tagOf image slot) ≤ i = omega (arith, length-take tagLength (drop (slotStart slot + tagOffset) image), ltb-false i tagLength a) in
     rw (List·getD-eq-default (tagOf image slot) 0 l) (omega arith))

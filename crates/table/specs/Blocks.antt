@@ -4,7 +4,7 @@ use mathlib.Core.List.{List, [], _∷_}
 use mathlib.Core.Bool.{false, cond}
 use lib.Dec.{leb, eqb}
 use lib.ListN.{getD}
-use Rattle.image.specs.Image.{kindOf, wireSlot, wireCode, startWire, abortWire, tagOf}
+use Rattle.image.specs.Image.{kindOf, wireSlot, wireCode, startWireOffset, abortWireOffset, tagOf}
 use Rattle.table.specs.Chain.{chainOf, positionOf}
 use Rattle.table.specs.declared.blocks.Wire.{Wire}
 use Rattle.table.specs.declared.blocks.Wiring.{Wiring}
@@ -31,8 +31,8 @@ blockIn image chain slot =
     record {
       kind = kindOf image slot;
       tag = tagOf image slot;
-      start = wireOf chain (wireSlot image slot startWire) (wireCode image slot startWire);
-      abort = wireOf chain (wireSlot image slot abortWire) (wireCode image slot abortWire);
+      start = wireOf chain (wireSlot image slot startWireOffset) (wireCode image slot startWireOffset);
+      abort = wireOf chain (wireSlot image slot abortWireOffset) (wireCode image slot abortWireOffset);
     }
 
 unfoldable pub blocksIn : List ℕ → List ℕ → List ℕ → List Block

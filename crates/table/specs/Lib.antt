@@ -9,5 +9,5 @@ pub mod Spare
 pub mod Check
 pub mod Lookup
 pub mod Blocks
-pub mod Accepted
+pub mod Table
 pub mod Refusals

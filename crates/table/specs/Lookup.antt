@@ -5,7 +5,7 @@ use mathlib.Core.List.{List, [], _∷_}
 use mathlib.Core.Bool.{true, cond}
 use lib.ListN.{length, getD, drop}
 use Rattle.table.specs.Place.{placeNumber, Answer, value, refusal}
-use Rattle.image.specs.Image.{slotLength, slotBytes, tagPlace, tagOf, HasSlot}
+use Rattle.image.specs.Image.{slotLength, slotBytes, tagOffset, tagOf, HasSlot}
 use Rattle.table.specs.Tag.{tagForm, sameBytes}
 use Rattle.table.specs.Chain.{chainOf}
 use Rattle.table.specs.Check.{checkOf}
@@ -102,7 +102,7 @@ NoTagWhen = (image tag : List ℕ) → NoSuchTag image tag → findOf image tag 
 -- what show hands back of a slot: sixteen bytes, of which 8 to 15 are the tag
 pub record ShownPart (tag part : List ℕ) : Type 0 where
   pub sized : length part ≡ slotLength
-  pub tagged : drop tagPlace part ≡ tag
+  pub tagged : drop tagOffset part ≡ tag
 
 -- theorem shown-part: where find answers a position, show hands back such a part
 abbrev pub ShowsTag : Type 0

@@ -6,7 +6,7 @@ use lib.Dec.{ltb, eqb}
 use Rattle.kind.specs.Kind.{isKind, hasAbort}
 use Rattle.membership.specs.Membership.{among}
 use Rattle.table.specs.Place.{require, thenCheck}
-use Rattle.image.specs.Image.{zeroPlace, slotByte, kindOf, wireSlot, wireCode, startWire, abortWire, tagOf}
+use Rattle.image.specs.Image.{zeroOffset, slotByte, kindOf, wireSlot, wireCode, startWireOffset, abortWireOffset, tagOf}
 use Rattle.table.specs.Tag.{tagForm, sameBytes}
 use Rattle.table.specs.Chain.{chainOf}
 use Rattle.table.specs.declared.place.Place.the-variants.{Slot}
@@ -15,7 +15,7 @@ use Rattle.table.specs.declared.place.Verdict.the-variants.{Passed}
 
 -- 7: "kind, or bytes 6-7"
 abbrev pub kindOk : List ℕ → ℕ → Bool
-kindOk image slot = isKind (kindOf image slot) && eqb (slotByte image slot zeroPlace) 0 && eqb (slotByte image slot (zeroPlace + 1)) 0
+kindOk image slot = isKind (kindOf image slot) && eqb (slotByte image slot zeroOffset) 0 && eqb (slotByte image slot (zeroOffset + 1)) 0
 
 -- 9: "tag of an earlier block"
 unfoldable pub tagAmong : List ℕ → List ℕ → List ℕ → Bool
@@ -32,13 +32,13 @@ wireOk chain slot code = cond (eqb slot 0) (eqb code 0) (among slot chain && ltb
 
 -- 10: "a wire not as above: its slot, its code, or an abort wire on a kind without one"
 abbrev pub startOk : List ℕ → List ℕ → ℕ → Bool
-startOk image chain slot = wireOk chain (wireSlot image slot startWire) (wireCode image slot startWire)
+startOk image chain slot = wireOk chain (wireSlot image slot startWireOffset) (wireCode image slot startWireOffset)
 
 abbrev pub abortOk : List ℕ → List ℕ → ℕ → Bool
 abortOk image chain slot =
     cond (hasAbort (kindOf image slot))
-    (wireOk chain (wireSlot image slot abortWire) (wireCode image slot abortWire))
-    (noWire (wireSlot image slot abortWire) (wireCode image slot abortWire))
+    (wireOk chain (wireSlot image slot abortWireOffset) (wireCode image slot abortWireOffset))
+    (noWire (wireSlot image slot abortWireOffset) (wireCode image slot abortWireOffset))
 
 -- one record; `repeated`: its tag is that of an earlier block
 unfoldable pub recordCheck : List ℕ → List ℕ → Bool → ℕ → Verdict

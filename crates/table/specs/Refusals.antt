@@ -32,6 +32,16 @@ pump1 = 0x50 ∷ 0x55 ∷ 0x4D ∷ 0x50 ∷ 0x31 ∷ 0x20 ∷ 0x20 ∷ 0x20 ∷ 
 abbrev fan : List ℕ
 fan = 0x46 ∷ 0x41 ∷ 0x4E ∷ 0x20 ∷ 0x20 ∷ 0x20 ∷ 0x20 ∷ 0x20 ∷ []
 
+-- tags of one character, of eight, and with a digit first: "Z", "VALVE025", "2PUMP"
+abbrev oneCharacter : List ℕ
+oneCharacter = 0x5A ∷ 0x20 ∷ 0x20 ∷ 0x20 ∷ 0x20 ∷ 0x20 ∷ 0x20 ∷ 0x20 ∷ []
+
+abbrev eightCharacters : List ℕ
+eightCharacters = 0x56 ∷ 0x41 ∷ 0x4C ∷ 0x56 ∷ 0x45 ∷ 0x30 ∷ 0x32 ∷ 0x35 ∷ []
+
+abbrev digitFirst : List ℕ
+digitFirst = 0x32 ∷ 0x50 ∷ 0x55 ∷ 0x4D ∷ 0x50 ∷ 0x20 ∷ 0x20 ∷ 0x20 ∷ []
+
 -- Two blocks in three slots, which begin at bytes 4, 20 and 36. Position 1 is slot 2: kind 7, tag PUMP1, abort wired to the aborted flag of slot 1.
 -- Position 2 is slot 1: kind 9, tag FAN, start wired to the done flag of slot 2, inverted. Slot 3 is spare.
 unfoldable pub image : List ℕ
@@ -41,6 +51,10 @@ image =
     ∷ 7 ∷ 1 ∷ 0 ∷ 0 ∷ 1 ∷ 3 ∷ 0 ∷ 0 ∷ 0x50 ∷ 0x55 ∷ 0x4D ∷ 0x50 ∷ 0x31 ∷ 0x20 ∷ 0x20 ∷ 0x20
     ∷ 0 ∷ 0 ∷ 0 ∷ 0 ∷ 0 ∷ 0 ∷ 0 ∷ 0 ∷ 0 ∷ 0 ∷ 0 ∷ 0 ∷ 0 ∷ 0 ∷ 0 ∷ 0
     ∷ []
+
+-- the image with this tag in slot 1
+abbrev tagged : List ℕ → List ℕ
+tagged tag = take 12 image ++ (tag ++ drop 20 image)
 
 -- a header of N slots with head 0
 abbrev header : ℕ → List ℕ
@@ -79,6 +93,21 @@ checkRows =
     ∷ set image 10 1 gives refusal 7 1
     ∷ set image 27 1 gives refusal 7 2
     ∷ set image 5 3 gives refusal 7 3
+    -- each of the kinds 1 to 14, without an abort wire
+    ∷ set image 4 1 gives value 2
+    ∷ set image 4 2 gives value 2
+    ∷ set image 4 3 gives value 2
+    ∷ set image 4 4 gives value 2
+    ∷ set image 4 5 gives value 2
+    ∷ set image 4 6 gives value 2
+    ∷ set image 4 7 gives value 2
+    ∷ set image 4 8 gives value 2
+    ∷ set image 4 9 gives value 2
+    ∷ set image 4 10 gives value 2
+    ∷ set image 4 11 gives value 2
+    ∷ set image 4 12 gives value 2
+    ∷ set image 4 13 gives value 2
+    ∷ set image 4 14 gives value 2
     -- 8: tag form; slot. No character, one beside A, Z, 0 or 9, a lower case a, a zero for a space, a space inside
     ∷ set image 28 0x20 gives refusal 8 2
     ∷ set image 12 0x40 gives refusal 8 1
@@ -88,22 +117,44 @@ checkRows =
     ∷ set image 14 0x61 gives refusal 8 1
     ∷ set image 19 0 gives refusal 8 1
     ∷ set image 19 0x41 gives refusal 8 1
-    -- A, Z, 0 and 9 at those places, and a character more, are in form
+    -- A, Z, 0 and 9 at those bytes, a character more, one alone, all eight, and a digit first are in form
     ∷ set image 12 0x41 gives value 2
     ∷ set image 12 0x5A gives value 2
     ∷ set image 13 0x30 gives value 2
     ∷ set image 13 0x39 gives value 2
     ∷ set image 15 0x41 gives value 2
+    ∷ tagged oneCharacter gives value 2
+    ∷ tagged eightCharacters gives value 2
+    ∷ tagged digitFirst gives value 2
     -- 9: tag of an earlier block; later slot
-    ∷ (take 12 image ++ (pump1 ++ drop 20 image)) gives refusal 9 1
-    -- 10: a wire's slot, off the chain or above N; a code beside slot 0; bits 2 and 6 of a code; an abort wire on kind 9, its slot and its code
+    ∷ tagged pump1 gives refusal 9 1
+    -- 10: a wire's slot, off the chain or above N; a code beside slot 0; bits 2 to 6 of a code; an abort wire on kind 9, its slot and its code, and on kind 4
     ∷ set image 6 3 gives refusal 10 1
     ∷ set image 24 4 gives refusal 10 2
     ∷ set image 23 1 gives refusal 10 2
     ∷ set image 7 4 gives refusal 10 1
+    ∷ set image 7 8 gives refusal 10 1
+    ∷ set image 7 16 gives refusal 10 1
+    ∷ set image 7 32 gives refusal 10 1
     ∷ set image 25 64 gives refusal 10 2
     ∷ set image 8 2 gives refusal 10 1
     ∷ set image 9 1 gives refusal 10 1
+    ∷ set image 20 4 gives refusal 10 2
+    -- an abort wire on kinds 5 to 8; flags 0 to 3, as they are and inverted; a start wire and an abort wire to the own slot
+    ∷ set image 20 5 gives value 2
+    ∷ set image 20 6 gives value 2
+    ∷ set image 20 7 gives value 2
+    ∷ set image 20 8 gives value 2
+    ∷ set image 7 0 gives value 2
+    ∷ set image 7 1 gives value 2
+    ∷ set image 7 2 gives value 2
+    ∷ set image 7 3 gives value 2
+    ∷ set image 7 128 gives value 2
+    ∷ set image 7 129 gives value 2
+    ∷ set image 7 130 gives value 2
+    ∷ set image 7 131 gives value 2
+    ∷ set image 6 1 gives value 2
+    ∷ set image 24 2 gives value 2
     -- 11: not zero; lowest slot
     ∷ set image 36 1 gives refusal 11 3
     ∷ set image 51 1 gives refusal 11 3

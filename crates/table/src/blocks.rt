@@ -5,10 +5,10 @@ ghost use Rattle.image.specs.Image.{mostSlots, slotLength, wireSlot, wireCode, 
 ghost use Rattle.table.specs.Chain.{chainOf, HoldsPositions};
 ghost use Rattle.table.specs.Check.{Accepted};
 ghost use Rattle.table.specs.Blocks.{wireOf, blocksOf, blockAt, wiringAt};
-use image::ABORT_WIRE;
-use image::KIND;
+use image::ABORT_WIRE_OFFSET;
+use image::KIND_OFFSET;
 use image::MOST_SLOTS;
-use image::START_WIRE;
+use image::START_WIRE_OFFSET;
 use image::slot_byte;
 
 // An input: flag 0 busy, 1 done, 2 error or 3 aborted of the block at a position. Position 0: the input bit of the frame.
@@ -62,7 +62,7 @@ pub fn kind_at(
     requires { ⌜ i < count ⌝ }
     ensures { λ r. ⌜ r ≡ blockAt (blocksOf (now (image .entry))) i .kind ⌝ }
 {
-    slot_byte(image, slots[i], KIND)
+    slot_byte(image, slots[i], KIND_OFFSET)
 }
 
 // The start wire of block i.
@@ -77,7 +77,7 @@ fn start_wire(
     requires { ⌜ i < count ⌝ }
     ensures { λ r. ⌜ r ≡ blockAt (blocksOf (now (image .entry))) i .start ⌝ }
 {
-    wire_at(image, positions, slots[i], START_WIRE)
+    wire_at(image, positions, slots[i], START_WIRE_OFFSET)
 }
 
 // The abort wire of block i; on a kind without abort, from the frame.
@@ -92,7 +92,7 @@ fn abort_wire(
     requires { ⌜ i < count ⌝ }
     ensures { λ r. ⌜ r ≡ blockAt (blocksOf (now (image .entry))) i .abort ⌝ }
 {
-    wire_at(image, positions, slots[i], ABORT_WIRE)
+    wire_at(image, positions, slots[i], ABORT_WIRE_OFFSET)
 }
 
 // The kind and the wires of block i.

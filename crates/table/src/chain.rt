@@ -12,7 +12,7 @@ ghost use Rattle.table.specs.Chain.{chainOf, chainVerdict, HoldsPosition
 use crate::place::Place;
 use crate::place::Verdict;
 use image::MOST_SLOTS;
-use image::SLOT_COUNT;
+use image::SLOT_COUNT_OFFSET;
 use walker::slot_after;
 
 // What a walk finds, and the number of slots met.
@@ -34,7 +34,7 @@ pub fn walk(
 {
     let mut count: usize = 0;
     let mut from = Place::Header;
-    let n = image[SLOT_COUNT];
+    let n = image[SLOT_COUNT_OFFSET];
     let mut at = slot_after(image, 0);
     while at != 0 {
         if n < at {

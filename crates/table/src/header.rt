@@ -4,11 +4,11 @@ ghost use Rattle.table.specs.Header.{headerCheck};
 use crate::place::Place;
 use crate::place::Verdict;
 use image::HEADER_LENGTH;
-use image::HEADER_ZERO;
+use image::HEADER_ZERO_OFFSET;
 use image::MOST_SLOTS;
-use image::SLOT_COUNT;
+use image::SLOT_COUNT_OFFSET;
 use image::SLOT_LENGTH;
-use image::VERSION;
+use image::VERSION_OFFSET;
 
 pub fn check_header(image: &[u8]) -> Verdict
     ensures { λ r. ⌜ r ≡ headerCheck (now (image .entry)) ⌝ }
@@ -16,10 +16,10 @@ pub fn check_header(image: &[u8]) -> Verdict
     if image.len() < HEADER_LENGTH {
         return Verdict::Failed(1, Place::Header);
     }
-    if !((image[VERSION] == 1) & (image[HEADER_ZERO] == 0)) {
+    if !((image[VERSION_OFFSET] == 1) & (image[HEADER_ZERO_OFFSET] == 0)) {
         return Verdict::Failed(2, Place::Header);
     }
-    let n = image[SLOT_COUNT] as usize;
+    let n = image[SLOT_COUNT_OFFSET] as usize;
     if !((1 <= n) & (n <= MOST_SLOTS)) {
         return Verdict::Failed(3, Place::Header);
     }

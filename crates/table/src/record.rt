@@ -7,17 +7,17 @@ ghost use Rattle.image.specs.Image.{slotLength, wireSlot, wireCode, tagOf, HasS
 ghost use Rattle.table.specs.Header.{HeaderOk};
 ghost use Rattle.table.specs.Chain.{chainOf, HoldsPositions, Holds};
 ghost use Rattle.table.specs.Record.{kindOk, wireOk, abortOk, tagAmong, recordCheck, recordsCheck};
-ghost use Rattle.table.specs.Marks.{markPlace};
+ghost use Rattle.table.specs.Marks.{markCount, markPlace};
 use crate::chain::on_chain;
 use crate::place::Place;
 use crate::place::Verdict;
 use crate::tag::slot_tag_form;
 use crate::tag::tag_number;
-use image::ABORT_WIRE;
-use image::KIND;
+use image::ABORT_WIRE_OFFSET;
+use image::KIND_OFFSET;
 use image::MOST_SLOTS;
-use image::START_WIRE;
-use image::ZERO;
+use image::START_WIRE_OFFSET;
+use image::ZERO_OFFSET;
 use image::slot_byte;
 
 // One of the fourteen kinds, and bytes 6 and 7 zero.
@@ -25,10 +25,10 @@ fn kind_ok(image: &[u8], slot: u8) -> bool
     requires { ⌜ HasSlot (now image) slot ⌝ }
     ensures { λ r. ⌜ r ≡ kindOk (now (image .entry)) slot ⌝ }
 {
-    let kind = slot_byte(image, slot, KIND);
+    let kind = slot_byte(image, slot, KIND_OFFSET);
     kind::is_kind(kind)
-        & (slot_byte(image, slot, ZERO) == 0)
-        & (slot_byte(image, slot, ZERO + 1) == 0)
+        & (slot_byte(image, slot, ZERO_OFFSET) == 0)
+        & (slot_byte(image, slot, ZERO_OFFSET + 1) == 0)
 }
 
 // A wire from the frame with code 0, or from a slot on the chain with a code of bits 0, 1 and 7.
@@ -52,10 +52,11 @@ fn abort_ok(image: &[u8], positions: &[u8; MOST_SLOTS + 1], slot: u8) -> bool
     requires { ⌜ HoldsPositions (chainOf (now image)) (now positions) ⌝ }
     ensures { λ r. ⌜ r ≡ abortOk (now (image .entry)) (chainOf (now (image .entry))) slot ⌝ }
 {
-    if kind::has_abort(slot_byte(image, slot, KIND)) {
-        return wire_ok(image, positions, slot, ABORT_WIRE);
+    if kind::has_abort(slot_byte(image, slot, KIND_OFFSET)) {
+        return wire_ok(image, positions, slot, ABORT_WIRE_OFFSET);
     }
-    (slot_byte(image, slot, ABORT_WIRE) == 0) & (slot_byte(image, slot, ABORT_WIRE + 1) == 0)
+    (slot_byte(image, slot, ABORT_WIRE_OFFSET) == 0)
+        & (slot_byte(image, slot, ABORT_WIRE_OFFSET + 1) == 0)
 }
 
 // Checks 7 to 10 of one record; `repeated`: its tag is that of an earlier block.
@@ -73,7 +74,7 @@ fn check_record(image: &[u8], positions: &[u8; MOST_SLOTS + 1], repeated: bool, 
     if repeated {
         return Verdict::Failed(9, Place::Slot(slot));
     }
-    if !wire_ok(image, positions, slot, START_WIRE) {
+    if !wire_ok(image, positions, slot, START_WIRE_OFFSET) {
         return Verdict::Failed(10, Place::Slot(slot));
     }
     if !abort_ok(image, positions, slot) {
@@ -82,13 +83,22 @@ fn check_record(image: &[u8], positions: &[u8; MOST_SLOTS + 1], repeated: bool, 
     Verdict::Passed
 }
 
+// The places for marks, and the constants of the hash that chooses one: specs/Marks.antt says what they are.
+const MARKS: usize = 128;
+
+const WORD_MODULUS: u64 = 4294967296;
+
+const HASH_FACTOR: u64 = 2654435769;
+
+const LOW_BITS: u64 = 33554432;
+
 // Where a tag is marked.
 fn mark_place(tag: u64) -> usize
     ensures { λ r. ⌜ r ≡ markPlace tag ⌝ }
-    ensures { λ r. ⌜ r < 128 ⌝ }
+    ensures { λ r. ⌜ r < markCount ⌝ }
 {
-    let folded = (tag % 4294967296 + tag / 4294967296) % 4294967296;
-    (folded * 2654435769 / 33554432 % 128) as usize
+    let folded = (tag % WORD_MODULUS + tag / WORD_MODULUS) % WORD_MODULUS;
+    (folded * HASH_FACTOR / LOW_BITS) as usize % MARKS
 }
 
 // Whether a slot's tag is that of one of the first n blocks.
@@ -148,7 +158,7 @@ pub fn check_records(
     requires { ⌜ Holds (chainOf (now image)) count (now slots) (now positions) ⌝ }
     ensures { λ r. ⌜ r ≡ recordsCheck (now (image .entry)) ⌝ }
 {
-    let mut marks = [0u8; 128];
+    let mut marks = [0u8; MARKS];
     let mut i: usize = 0;
     while i < count {
         let slot = slots[i];

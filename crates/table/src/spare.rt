@@ -8,17 +8,17 @@ use crate::chain::on_chain;
 use crate::place::Place;
 use crate::place::Verdict;
 use image::MOST_SLOTS;
-use image::SLOT_COUNT;
-use image::TAG;
+use image::SLOT_COUNT_OFFSET;
+use image::TAG_OFFSET;
 use image::slot_start;
 
-// Whether all sixteen bytes of a slot are zero.
+// Whether all sixteen bytes of a slot are zero: the eight before the tag, and the tag's.
 fn slot_zero(image: &[u8], slot: u8) -> bool
     requires { ⌜ HasSlot (now image) slot ⌝ }
     ensures { λ r. ⌜ r ≡ allZero (slotBytes (now (image .entry)) slot) ⌝ }
 {
     let start = slot_start(slot);
-    (words::u64_at(image, start) == 0) & (words::u64_at(image, start + TAG) == 0)
+    (words::u64_at(image, start) == 0) & (words::u64_at(image, start + TAG_OFFSET) == 0)
 }
 
 // A slot on the chain, or sixteen zeros.
@@ -39,7 +39,7 @@ pub fn check_spares(image: &[u8], positions: &[u8; MOST_SLOTS + 1]) -> Verdict
     requires { ⌜ HoldsPositions (chainOf (now image)) (now positions) ⌝ }
     ensures { λ r. ⌜ r ≡ sparesCheck (now (image .entry)) ⌝ }
 {
-    let n = image[SLOT_COUNT];
+    let n = image[SLOT_COUNT_OFFSET];
     let mut slot: u8 = 1;
     while slot <= n {
         if !spare_ok(image, positions, slot) {

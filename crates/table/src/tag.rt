@@ -5,8 +5,8 @@ ghost use lib.ListN.{length, drop};
 ghost use Rattle.words.specs.Word.{number};
 ghost use Rattle.image.specs.Image.{tagOf, HasSlot};
 ghost use Rattle.table.specs.Tag.{tagChar, spaces, tagForm};
-use image::TAG;
 use image::TAG_LENGTH;
+use image::TAG_OFFSET;
 use image::slot_start;
 
 // A-Z and 0-9.
@@ -56,7 +56,7 @@ pub fn slot_tag_form(image: &[u8], slot: u8) -> bool
     requires { ⌜ HasSlot (now image) slot ⌝ }
     ensures { λ r. ⌜ r ≡ tagForm (tagOf (now (image .entry)) slot) ⌝ }
 {
-    let start = slot_start(slot) + TAG;
+    let start = slot_start(slot) + TAG_OFFSET;
     let end = start + TAG_LENGTH;
     tag_form(&image[start..end])
 }
@@ -66,5 +66,5 @@ pub fn tag_number(image: &[u8], slot: u8) -> u64
     requires { ⌜ HasSlot (now image) slot ⌝ }
     ensures { λ r. ⌜ r ≡ number (tagOf (now (image .entry)) slot) ⌝ }
 {
-    words::u64_at(image, slot_start(slot) + TAG)
+    words::u64_at(image, slot_start(slot) + TAG_OFFSET)
 }

@@ -3,8 +3,8 @@
 ghost use mathlib.Core.Path.{_≡_};
 ghost use Rattle.image.specs.Image.{Reaches};
 ghost use Rattle.walker.specs.Next.{nextSlot};
-use image::HEAD;
-use image::NEXT;
+use image::HEAD_OFFSET;
+use image::NEXT_OFFSET;
 use image::slot_byte;
 
 pub struct Walker<'a> {
@@ -18,9 +18,9 @@ pub fn next_slot(image: &[u8], slot: u8) -> u8
     ensures { λ r. ⌜ r ≡ nextSlot (now (image .entry)) slot ⌝ }
 {
     if slot == 0 {
-        return image[HEAD];
+        return image[HEAD_OFFSET];
     }
-    slot_byte(image, slot, NEXT)
+    slot_byte(image, slot, NEXT_OFFSET)
 }
 
 // The slot after the walker's: the walker is taken apart.

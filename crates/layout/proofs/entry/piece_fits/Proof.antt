@@ -1,7 +1,7 @@
 -- `entry::piece_fits` meets its contract: by the count; a zero piece as one number.
 use native.Mathlib.Omega.{arith}
 use mathlib.Core.Path.{_∙_}
-use Rattle.layout.specs.EntryLayout.{decodePiece, zeroByte}
+use Rattle.layout.specs.EntryLayout.{decodePiece, pieceZero}
 use Rattle.layout.proofs.CheckLaws.{piece-past, piece-counted, piece-uncounted}
 use borrow.Author.Needs.{needs}
 use Rattle.layout.proofs.entry.piece_fits.Statement.{statement}
@@ -13,7 +13,7 @@ piece-form-requires c κs = search needs
 returns : tie.Need-returns
 returns c =
     let a = c .before .before .before .args in
-    c .piece-form .ensures ∙ piece-counted (a .count) (a .i) (decodePiece (a .s .now) (a .at)) (zeroByte (a .s .now) (a .at)) (omega arith)
+    c .piece-form .ensures ∙ piece-counted (a .count) (a .i) (decodePiece (a .s .now) (a .at)) (pieceZero (a .s .now) (a .at)) (omega arith)
 
 u64-at-requires : tie.Need-u64-at-requires
 u64-at-requires c κs = search needs
@@ -22,7 +22,7 @@ returns-2 : tie.Need-returns-2
 returns-2 c =
     let a = c .before .before .before .args in
     rw (c .u64-at .ensures)
-    (piece-past (a .s .now) (a .at) (omega arith) ∙ piece-uncounted (a .count) (a .i) (decodePiece (a .s .now) (a .at)) (zeroByte (a .s .now) (a .at)) (omega arith))
+    (piece-past (a .s .now) (a .at) (omega arith) ∙ piece-uncounted (a .count) (a .i) (decodePiece (a .s .now) (a .at)) (pieceZero (a .s .now) (a .at)) (omega arith))
 
 pub piece-fits-spec : {M : Type 1} → statement M
 piece-fits-spec = tie.close (tie.spec piece-form-requires returns u64-at-requires returns-2)

@@ -2,7 +2,7 @@
 use mathlib.Core.Path.{refl, sym, ap, _∙_}
 use mathlib.Core.Logic.{inr}
 use native.Mathlib.Omega.{arith}
-use Rattle.image.specs.Image.{abortWire}
+use Rattle.image.specs.Image.{abortWireOffset}
 use Rattle.table.proofs.HeldLaws.{held-has, held-block, held-source}
 use Rattle.table.specs.Blocks.{Block, blockIn}
 use Rattle.table.proofs.blocks.abort_wire.Statement.{statement}
@@ -16,7 +16,7 @@ wire-at-requires c κs =
     let s = c .before .before in
     let a = s .args in
     let has = held-has (a .image .now) (a .count) (a .slots .now) (a .positions .now) (s .pre .0) (a .i) (s .pre .1) in
-    let source = held-source (a .image .now) (a .count) (a .slots .now) (a .positions .now) (s .pre .0) (a .i) (s .pre .1) abortWire (inr refl) in
+    let source = held-source (a .image .now) (a .count) (a .slots .now) (a .positions .now) (s .pre .0) (a .i) (s .pre .1) abortWireOffset (inr refl) in
     (has, (omega arith, (source, s .pre .0 .chain .places)))
 
 returns : tie.Need-returns

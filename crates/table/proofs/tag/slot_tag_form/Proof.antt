@@ -3,7 +3,7 @@ use Prim.Native.Nat.{_+_, _-_}
 use mathlib.Core.Path.{_≡_}
 use native.Mathlib.Omega.{arith}
 use borrow.Author.Needs.{needs}
-use Rattle.image.specs.Image.{tagPlace, tagLength}
+use Rattle.image.specs.Image.{tagOffset, tagLength}
 use Rattle.table.proofs.tag.slot_tag_form.Statement.{statement}
 use Rattle.table.proofs.tag.slot_tag_form.Tie as tie
 
@@ -31,7 +31,7 @@ tag-form-requires c κs = search needs
 returns : tie.Need-returns
 returns c =
     let a = c .before .before .before .before .args in
-    let e : (c .before .before .slot-start .result + tagPlace + tagLength) - (c .before .before .slot-start .result + tagPlace) ≡ tagLength = omega arith in
+    let e : (c .before .before .slot-start .result + tagOffset + tagLength) - (c .before .before .slot-start .result + tagOffset) ≡ tagLength = omega arith in
     rw (← c .before .before .slot-start .ensures) (rw e at (c .tag-form .ensures))
 
 pub slot-tag-form-spec : {M : Type 1} → statement M

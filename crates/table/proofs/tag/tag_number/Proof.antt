@@ -3,7 +3,7 @@ use Prim.Native.Nat.{ℕ, _+_}
 use mathlib.Core.Path.{ap, _∙_}
 use borrow.Author.Needs.{needs}
 use Rattle.words.specs.Word.{numberAt}
-use Rattle.image.specs.Image.{tagPlace, tagLength}
+use Rattle.image.specs.Image.{tagOffset, tagLength}
 use Rattle.table.proofs.tag.tag_number.Statement.{statement}
 use Rattle.table.proofs.tag.tag_number.Tie as tie
 
@@ -19,7 +19,7 @@ u64-at-requires c κs = search needs
 returns : tie.Need-returns
 returns c =
     let a = c .before .before .before .args in
-    c .u64-at .ensures ∙ ap (λ (x : ℕ). numberAt tagLength (a .image .now) (x + tagPlace)) (c .before .slot-start .ensures)
+    c .u64-at .ensures ∙ ap (λ (x : ℕ). numberAt tagLength (a .image .now) (x + tagOffset)) (c .before .slot-start .ensures)
 
 pub tag-number-spec : {M : Type 1} → statement M
 tag-number-spec = tie.close (tie.spec slot-start-requires add-u64-at u64-at-requires returns)

@@ -1,5 +1,5 @@
 -- Which images are accepted tables, said by their chain and not by a walk, and what the blocks of an accepted table are: for whoever writes a
--- table. The statements at the end are proved in proofs/Accepted.antt.
+-- table. The statements at the end are proved in proofs/Table.antt.
 use Prim.Native.Nat.{ℕ, _≤_, _<_}
 use mathlib.Core.Path.{_≡_}
 use mathlib.Core.List.{List, [], _∷_}
@@ -50,7 +50,7 @@ pub record Table (image chain : List ℕ) : Type 0 where
   pub spares : (slot : ℕ) → 0 < slot → slot ≤ slotCount image → among slot chain ≡ false → allZero (slotBytes image slot) ≡ true
 
 -- a wire of a table of n blocks: a flag 0 to 3 of a block, or the frame's bit
-pub record WireOf (n : ℕ) (w : Wire) : Type 0 where
+pub record WireFits (n : ℕ) (w : Wire) : Type 0 where
   pub within : w .position ≤ n
   pub flag : w .flag < 4
   pub frame : w .position ≡ 0 → w ≡ fromFrame
@@ -59,8 +59,8 @@ pub record WireOf (n : ℕ) (w : Wire) : Type 0 where
 pub record BlockOk (n : ℕ) (b : Block) : Type 0 where
   pub kind : isKind (b .kind) ≡ true
   pub tag : tagForm (b .tag) ≡ true
-  pub start : WireOf n (b .start)
-  pub abort : WireOf n (b .abort)
+  pub start : WireFits n (b .start)
+  pub abort : WireFits n (b .abort)
   -- "Kinds 1-4 and 9-14 have no abort wire"
   pub no-abort : hasAbort (b .kind) ≡ false → b .abort ≡ fromFrame
 

@@ -1,5 +1,5 @@
 -- An image is accepted exactly when its chain makes it a table, and what the blocks of an accepted table are: the theorems that
--- specs/Accepted.antt states, for whoever writes a table.
+-- specs/Table.antt states, for whoever writes a table.
 use Prim.Native.Nat.{ℕ, zero, suc, _+_, _≤_, _<_}
 use mathlib.Core.Path.{_≡_, refl, ap, sym, _∙_, subst}
 use mathlib.Core.List.{List, [], _∷_, _++_, append-assoc, append-nil}
@@ -19,7 +19,7 @@ use Rattle.table.specs.Record.{tagAmong, recordCheck, recordsFrom, recor
 use Rattle.table.specs.Spare.{spareOk, sparesFrom, sparesCheck}
 use Rattle.table.specs.Check.{verdictOf, checkOf}
 use Rattle.table.specs.Blocks.{blocksOf}
-use Rattle.table.specs.Accepted.{Linked, ended, link, Distinct, RecordOk, Table, BlocksOk, TableAccepted, AcceptedTable, AcceptedBlocksOk}
+use Rattle.table.specs.Table.{Linked, ended, link, Distinct, RecordOk, Table, BlocksOk, TableAccepted, AcceptedTable, AcceptedBlocksOk}
 use Rattle.table.specs.declared.place.Place.{Place}
 use Rattle.table.specs.declared.place.Place.the-variants.{Header, Slot}
 use Rattle.table.specs.declared.place.Verdict.the-variants.{Passed}
