@@ -11,7 +11,7 @@ use mathlib.Core.Path.{_≡_, refl, ap, sym, _∙_}
 use lib.Dec.{eqb, lit<}
 use lib.ListN.{length, take, drop, getD, replicate}
 use lib.Seq.{getD-take, getD-drop}
-use Rattle.table.specs.declared.blocks.Wiring.{Wiring}
+use Rattle.table.specs.declared.blocks.BlockConfig.{BlockConfig}
 use borrow.Author.Tests.{not-true, eqb-true}
 use Rattle.layout.specs.Buffer.{recordLength, entryLength, reportLength, eventLength, byteAt, part, put}
 use Rattle.layout.specs.RecordLayout.{recordOffset, decodeFlags, encodeRecord, decodeRecord}
@@ -99,7 +99,7 @@ written-is i state report journal events a newState newReport newJournal count e
     λ j. record { state = es j; report = er j; journal = f j; events = ec j }
 
 -- a block served: its inputs, its call, and what the call leaves
-module _ (b : Wiring) (i : ℕ) (frame state report journal : List ℕ) (events : ℕ) (inputs : Inputs)
+module _ (b : BlockConfig) (i : ℕ) (frame state report journal : List ℕ) (events : ℕ) (inputs : Inputs)
     (resolved : inputs ≡ inputsOf b (flagsIn state) (entryIn frame i .inputs)) (a : CallResult) where
   abbrev before : Buffers
   before = record { state = state; report = report; journal = journal; events = events }

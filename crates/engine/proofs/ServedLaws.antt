@@ -5,7 +5,7 @@ use native.Mathlib.Omega.{arith}
 use mathlib.Core.List.{List}
 use mathlib.Core.Path.{_≡_, refl, ap}
 use lib.ListN.{length}
-use Rattle.table.specs.Blocks.{Block, blockAt, wiringAt}
+use Rattle.table.specs.Blocks.{Block, blockAt, configAt}
 use Rattle.layout.specs.Buffer.{recordLength, reportLength, eventLength, part, put}
 use Rattle.layout.specs.RecordLayout.{encodeRecord, decodeRecord}
 use Rattle.layout.specs.ReportLayout.{encodeReport}
@@ -27,14 +27,14 @@ module _ (blocks : List Block) (told : Told) (state report journal : List ℕ) w
   buffersAt n = servedTo blocks told n (record { state = state; report = report; journal = journal; events = 0 })
 
   abbrev pub outcomeAt : ℕ → Outcome
-  outcomeAt i = callIn (wiringAt blocks i) i (told .frame) (buffersAt i .state)
+  outcomeAt i = callIn (configAt blocks i) i (told .frame) (buffersAt i .state)
 
   abbrev pub stateTo : ℕ → List ℕ
   stateTo n = buffersAt n .state
 
   -- the inputs of the call of block i
   abbrev pub inputsAt : ℕ → Inputs
-  inputsAt i = inputsOf (wiringAt blocks i) (flagsIn (stateTo i)) (entryIn (told .frame) i .inputs)
+  inputsAt i = inputsOf (configAt blocks i) (flagsIn (stateTo i)) (entryIn (told .frame) i .inputs)
 
   abbrev pub reportTo : ℕ → List ℕ
   reportTo n = buffersAt n .report

@@ -10,9 +10,9 @@ use lib.ListN.{length}
 use borrow.Author.Tests.{leb-true}
 use Rattle.membership.proofs.Logic.{and-left}
 use Rattle.table.specs.Check.{checkOf}
-use Rattle.table.specs.Blocks.{Block, blocksOf, wiringAt}
+use Rattle.table.specs.Blocks.{Block, blocksOf, configAt}
 use Rattle.table.specs.declared.check.Checked.the-variants.{Blocks}
-use Rattle.table.specs.declared.blocks.Wiring.{Wiring}
+use Rattle.table.specs.declared.blocks.BlockConfig.{BlockConfig}
 use Rattle.table.proofs.AcceptedLaws.{accepted-blocks, accepted-few, accepted-start, accepted-abort}
 use Rattle.layout.specs.Buffer.{recordLength, entryLength, reportLength, eventLength, part, put}
 use Rattle.layout.specs.EventLayout.{encodeEvents}
@@ -87,14 +87,14 @@ module _ (blocks : List Block) (told : Told) (state₀ report₀ journal₀ : Li
       ap (λ (b : Buffers). part recordLength i (b .state)) (h .whole) ∙ state-later blocks told state₀ report₀ journal₀ (s .sized) i i (h .within) (omega arith)
 
   -- `b` is what a call reads of the next block
-  module _ (b : Wiring) (eb : b ≡ wiringAt blocks i) where
+  module _ (b : BlockConfig) (eb : b ≡ configAt blocks i) where
     pub serving-on : (newState newReport newJournal : List ℕ) (count : ℕ) → i < length blocks
         → _≡_ {A = Buffers} (record { state = newState; report = newReport; journal = newJournal; events = count })
         (served b i (told .frame) (record { state = state; report = report; journal = journal; events = events }))
         → Serving blocks told state₀ report₀ journal₀ (i + 1) newState newReport newJournal count
     unfolding servedTo
     serving-on newState newReport newJournal count l e =
-        rw add-one (record { within = l; whole = rw eb at e ∙ ap (served (wiringAt blocks i) i (told .frame)) (h .whole) })
+        rw add-one (record { within = l; whole = rw eb at e ∙ ap (served (configAt blocks i) i (told .frame)) (h .whole) })
 
     -- the next block of an accepted table can be called
     pub serving-callable : (image : List ℕ) (n : ℕ) → checkOf image ≡ Blocks n → blocks ≡ blocksOf image

@@ -5,7 +5,7 @@ use mathlib.Core.List.{List}
 use mathlib.Core.Path.{_≡_}
 use lib.ListN.{length}
 use Rattle.image.specs.Image.{mostSlots}
-use Rattle.table.specs.declared.blocks.Wiring.{Wiring}
+use Rattle.table.specs.declared.blocks.BlockConfig.{BlockConfig}
 use Rattle.layout.specs.Buffer.{recordLength, entryLength, reportLength, eventLength, part}
 use Rattle.layout.specs.RecordLayout.{soundBytes}
 use Rattle.block.specs.Entry.{mostPieces}
@@ -25,6 +25,6 @@ pub record HasRoom (i events : ℕ) (report journal : List ℕ) : Type 0 where
   pub posted : eventLength * events + 2 * eventLength ≤ length journal
 
 -- its wires
-pub record Reached (b : Wiring) (state : List ℕ) : Type 0 where
+pub record Reached (b : BlockConfig) (state : List ℕ) : Type 0 where
   pub start : recordLength * b .start .position ≤ length state
   pub abort : recordLength * b .abort .position ≤ length state

@@ -4,7 +4,7 @@ use mathlib.Core.Bool.{Bool, not, cond}
 use mathlib.Core.List.{List}
 use lib.Dec.{eqb}
 use Rattle.table.specs.declared.blocks.Wire.{Wire}
-use Rattle.table.specs.declared.blocks.Wiring.{Wiring}
+use Rattle.table.specs.declared.blocks.BlockConfig.{BlockConfig}
 use Rattle.layout.specs.Buffer.{recordLength, part}
 use Rattle.layout.specs.RecordLayout.{decodeRecord}
 use Rattle.block.specs.declared.record.Flags.{Flags}
@@ -29,5 +29,5 @@ abbrev pub wired : Wire → Wire → (ℕ → Flags) → Inputs → Inputs
 wired start abort flags bits = record { start = inputOf start flags (bits .start); abort = inputOf abort flags (bits .abort) }
 
 -- the inputs of a block
-unfoldable pub inputsOf : Wiring → (ℕ → Flags) → Inputs → Inputs
+unfoldable pub inputsOf : BlockConfig → (ℕ → Flags) → Inputs → Inputs
 inputsOf b flags bits = wired (b .start) (b .abort) flags bits

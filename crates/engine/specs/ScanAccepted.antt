@@ -5,7 +5,7 @@ use mathlib.Core.Bool.{true}
 use mathlib.Core.List.{List}
 use mathlib.Core.Path.{_≡_}
 use lib.ListN.{length}
-use Rattle.table.specs.Blocks.{Block, blocksOf, blockAt, wiringAt}
+use Rattle.table.specs.Blocks.{Block, blocksOf, blockAt, configAt}
 use Rattle.table.specs.Check.{checkOf}
 use Rattle.table.specs.declared.check.Checked.the-variants.{Blocks as TableBlocks}
 use Rattle.table.specs.declared.place.Verdict.the-variants.{Passed}
@@ -63,7 +63,7 @@ module _ (image state : List ℕ) (told : Told) (report journal : List ℕ) (i :
 
   -- "A wired input reads that flag as it stands when the block is called"
   abbrev pub inputsAtCall : Inputs
-  inputsAtCall = inputsOf (wiringAt (blocksOf image) i) (flagsIn stateAtCall) (entryIn (told .frame) i .inputs)
+  inputsAtCall = inputsOf (configAt (blocksOf image) i) (flagsIn stateAtCall) (entryIn (told .frame) i .inputs)
 
 -- theorem calls-are-whole, proofs/ScanAccepted.antt: "A call repeats passes until one stops": in an accepted scan the call of each block is such
 -- a call, cut short by nothing, from the record that the scan was given, with at most 6 passes and 2 events
@@ -72,4 +72,4 @@ CallsAreWhole =
     (image state : List ℕ) (told : Told) (report journal : List ℕ) (m : ℕ) → scanOf image state told report journal .answer ≡ Events m
     → (i : ℕ) → i < length (blocksOf image)
     → Whole (blockAt (blocksOf image) i .kind) (inputsAtCall image state told report journal i) (entryIn (told .frame) i) (recordIn state i)
-    (callIn (wiringAt (blocksOf image) i) i (told .frame) (stateAtCall image state told report journal i))
+    (callIn (configAt (blocksOf image) i) i (told .frame) (stateAtCall image state told report journal i))

@@ -4,13 +4,13 @@ use mathlib.Core.Bool.{Bool, not, _&&_}
 use mathlib.Core.List.{List}
 use lib.Dec.{eqb}
 use lib.ListN.{length}
-use Rattle.table.specs.Blocks.{Block, wiringAt}
+use Rattle.table.specs.Blocks.{Block, configAt}
 use Rattle.layout.specs.Buffer.{recordLength, entryLength, reportLength, eventLength, part, put}
 use Rattle.layout.specs.RecordLayout.{encodeRecord, decodeRecord}
 use Rattle.layout.specs.EntryLayout.{decodeEntry}
 use Rattle.layout.specs.ReportLayout.{encodeReport}
 use Rattle.layout.specs.EventLayout.{encodeEvents}
-use Rattle.table.specs.declared.blocks.Wiring.{Wiring}
+use Rattle.table.specs.declared.blocks.BlockConfig.{BlockConfig}
 use Rattle.block.specs.Record.{Dormant}
 use Rattle.block.specs.Call.{Outcome, callOf}
 use Rattle.block.specs.declared.record.Record.{Record}
@@ -37,7 +37,7 @@ abbrev pub idle : Inputs → Record → Bool
 idle i r = eqb (r .step) Dormant && not (i .start)
 
 -- the call of the block at index i: "A wired input reads that flag as it stands when the block is called"
-unfoldable pub callIn : Wiring → ℕ → List ℕ → List ℕ → Outcome
+unfoldable pub callIn : BlockConfig → ℕ → List ℕ → List ℕ → Outcome
 callIn b i frame state =
     callOf (b .kind) (inputsOf b (flagsIn state) (entryIn frame i .inputs)) (entryIn frame i) (recordIn state i)
 
@@ -52,10 +52,10 @@ written i o b =
       events = b .events + length (o .events);
     }
 
-unfoldable pub served : Wiring → ℕ → List ℕ → Buffers → Buffers
+unfoldable pub served : BlockConfig → ℕ → List ℕ → Buffers → Buffers
 served b i frame buffers = written i (callIn b i frame (buffers .state)) buffers
 
 -- the first n blocks, each called once, in chain order
 unfoldable pub servedTo : List Block → Told → ℕ → Buffers → Buffers
 servedTo blocks told zero buffers = buffers
-servedTo blocks told (suc i) buffers = served (wiringAt blocks i) i (told .frame) (servedTo blocks told i buffers)
+servedTo blocks told (suc i) buffers = served (configAt blocks i) i (told .frame) (servedTo blocks told i buffers)

@@ -40,7 +40,7 @@ fn serve_all(
     let mut events = 0;
     let mut i = 0;
     while i < count {
-        let b = table::blocks::wiring_at(image, slots, positions, count, i);
+        let b = table::blocks::config_at(image, slots, positions, count, i);
         events = serve(b, i, frame, state, report, journal, events);
         i += 1;
     }

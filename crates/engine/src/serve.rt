@@ -7,7 +7,7 @@ use layout::entry::ENTRY_BYTES;
 use layout::event::EVENT_BYTES;
 use layout::record::RECORD_BYTES;
 use layout::report::REPORT_BYTES;
-use table::blocks::Wiring;
+use table::blocks::BlockConfig;
 ghost use mathlib.Core.Path.{_≡_};
 ghost use Prim.Native.Nat.{_+_, _*_, _≤_, _<_};
 ghost use lib.ListN.{length};
@@ -22,7 +22,7 @@ ghost use Rattle.engine.specs.Serve.{recordIn, entryIn, idle, written, s
 ghost use Rattle.engine.specs.Callable.{Callable, Reached, HasRoom};
 
 // The inputs of the block at index i: its wires, else the bits of its entry.
-fn inputs_at(b: Wiring, i: usize, frame: &[u8], state: &[u8]) -> Inputs
+fn inputs_at(b: BlockConfig, i: usize, frame: &[u8], state: &[u8]) -> Inputs
     requires { ⌜ (entryLength * i < length (now frame)) × Reached b (now state) ⌝ }
     ensures { λ r. ⌜ r ≡ inputsOf b (flagsIn (now (state .entry))) (entryIn (now (frame .entry)) i .inputs) ⌝ }
 {
@@ -108,7 +108,7 @@ fn write_call(
 
 // The block at index i is served; the number of events now in the journal. An idle block's record is only read, and stays in its place.
 pub fn serve(
-    b: Wiring,
+    b: BlockConfig,
     i: usize,
     frame: &[u8],
     state: &mut [u8],

@@ -9,7 +9,7 @@ use mathlib.Core.Path.{_≡_, refl, ap, sym, _∙_, subst}
 use lib.Dec.{ltb}
 use lib.ListN.{length}
 use borrow.Author.Tests.{ltb-true, ltb-false}
-use Rattle.table.specs.Blocks.{Block, blockAt, wiringAt}
+use Rattle.table.specs.Blocks.{Block, blockAt, configAt}
 use Rattle.layout.specs.Buffer.{recordLength, entryLength, reportLength, eventLength, part}
 use Rattle.layout.specs.RecordLayout.{decodeRecord, recordForm}
 use Rattle.layout.proofs.Fits.{RecordFits}
@@ -84,12 +84,12 @@ module _ (blocks : List Block) (told : Told) (state report journal : List ℕ) w
     module _ (k : ℕ) (l : k < length blocks) where
       -- the inputs, as they are seen in the bytes
       abbrev pub inputsSeen : Inputs
-      inputsSeen = inputsOf (wiringAt blocks k) (flagsSeen k state (stateTo (length blocks))) (entryIn (told .frame) k .inputs)
+      inputsSeen = inputsOf (configAt blocks k) (flagsSeen k state (stateTo (length blocks))) (entryIn (told .frame) k .inputs)
 
       pub outcome-is : outcomeAt k ≡ callOf (blockAt blocks k .kind) inputsSeen (entryIn (told .frame) k) (recordIn state k)
       unfolding callIn
       outcome-is = λ i.
-          callOf (blockAt blocks k .kind) (inputsOf (wiringAt blocks k) (λ j. flags-are k l j i) (entryIn (told .frame) k .inputs)) (entryIn (told .frame) k)
+          callOf (blockAt blocks k .kind) (inputsOf (configAt blocks k) (λ j. flags-are k l j i) (entryIn (told .frame) k .inputs)) (entryIn (told .frame) k)
           (decodeRecord (laws.state-later blocks told state report journal sized k k (omega arith) (omega arith) i))
 
     -- the events of each call come after those of the calls before it
@@ -126,7 +126,7 @@ module _ (blocks : List Block) (told : Told) (state report journal : List ℕ) w
     seenIn k =
         record {
           before = recordIn state k;
-          inputs = inputsOf (wiringAt blocks k) (flagsSeen k state (stateTo (length blocks))) (entryIn (told .frame) k .inputs);
+          inputs = inputsOf (configAt blocks k) (flagsSeen k state (stateTo (length blocks))) (entryIn (told .frame) k .inputs);
           entry = entryIn (told .frame) k;
           passes = reportedPasses (part reportLength k (reportTo (length blocks)));
           used = reportedPieces (part reportLength k (reportTo (length blocks)));

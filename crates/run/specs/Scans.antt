@@ -4,7 +4,7 @@ use mathlib.Core.Bool.{cond}
 use mathlib.Core.List.{List, [], _++_}
 use lib.Dec.{ltb}
 use Rattle.words.specs.Word.{Bytes}
-use Rattle.table.specs.Blocks.{blocksOf, wiringAt}
+use Rattle.table.specs.Blocks.{blocksOf, configAt}
 use Rattle.layout.specs.Buffer.{reportLength, part}
 use Rattle.layout.specs.ReportLayout.{reportedPieces, reportedPasses}
 use Rattle.layout.specs.EventLayout.{Posted, decodeEvents, eventsAt}
@@ -51,7 +51,7 @@ module _ (image : List ℕ) where
   seenAt k before g r n =
       record {
         before = recordIn before k;
-        inputs = inputsOf (wiringAt (blocksOf image) k) (flagsSeen k before (r .state)) (entryIn (g .told .frame) k .inputs);
+        inputs = inputsOf (configAt (blocksOf image) k) (flagsSeen k before (r .state)) (entryIn (g .told .frame) k .inputs);
         entry = entryIn (g .told .frame) k;
         passes = reportedPasses (part reportLength k (r .report));
         used = reportedPieces (part reportLength k (r .report));

@@ -16,7 +16,7 @@ use Rattle.image.specs.Image.{slotCount, tagOf, HasSlot}
 use Rattle.table.specs.Header.{HeaderOk}
 use Rattle.table.specs.Tag.{sameBytes}
 use Rattle.table.specs.Chain.{chainOf}
-use Rattle.table.specs.Marks.{markCount, markPlace}
+use Rattle.table.specs.Marks.{markCount, markIndex}
 use Rattle.table.specs.Record.{tagAmong, recordCheck, recordsFrom, recordsCheck}
 use Rattle.table.specs.declared.place.Place.{Place}
 use Rattle.table.specs.declared.place.Verdict.{Verdict}
@@ -60,7 +60,7 @@ among-none image tag = refl
 
 -- the place of a slot's mark
 abbrev pub markOf : List ℕ → ℕ → ℕ
-markOf image slot = markPlace (number (tagOf image slot))
+markOf image slot = markIndex (number (tagOf image slot))
 
 -- every one of some slots has its mark
 unfoldable pub Marked : List ℕ → List ℕ → List ℕ → Type 0
@@ -93,7 +93,7 @@ unmarked image marks hd by k hk (x ∷ ks) h m z =
     by-test (eqb (number (tagOf image x)) (number (tagOf image k)))
     (λ e. let q : number (tagOf image x) ≡ number (tagOf image k) = eqb-true _ _ e in
     let one : getD marks (markOf image x) 0 ≡ 1 = m .0 in
-    let two : getD marks (markOf image k) 0 ≡ 1 = ap (λ (t : ℕ). getD marks (markPlace t) 0) (sym q) ∙ one in
+    let two : getD marks (markOf image k) 0 ≡ 1 = ap (λ (t : ℕ). getD marks (markIndex t) 0) (sym q) ∙ one in
     absurd (omega (arith, two, z)))
     (λ e. simp (s, e) (unmarked image marks hd by k hk ks (h .2) (m .1) z))
 

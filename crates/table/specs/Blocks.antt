@@ -7,7 +7,7 @@ use lib.ListN.{getD}
 use Rattle.image.specs.Image.{kindOf, wireSlot, wireCode, startWireOffset, abortWireOffset, tagOf}
 use Rattle.table.specs.Chain.{chainOf, positionOf}
 use Rattle.table.specs.declared.blocks.Wire.{Wire}
-use Rattle.table.specs.declared.blocks.Wiring.{Wiring}
+use Rattle.table.specs.declared.blocks.BlockConfig.{BlockConfig}
 
 -- "Wire slot 0 takes the input bit from the frame"
 abbrev pub fromFrame : Wire
@@ -51,5 +51,5 @@ abbrev pub blockAt : List Block → ℕ → Block
 blockAt blocks i = getD blocks i noBlock
 
 -- what a call reads of it: no call reads a tag
-abbrev pub wiringAt : List Block → ℕ → Wiring
-wiringAt blocks i = record { kind = blockAt blocks i .kind; start = blockAt blocks i .start; abort = blockAt blocks i .abort }
+abbrev pub configAt : List Block → ℕ → BlockConfig
+configAt blocks i = record { kind = blockAt blocks i .kind; start = blockAt blocks i .start; abort = blockAt blocks i .abort }

@@ -22,5 +22,5 @@ abbrev pub lowBits : ℕ
 lowBits = 33554432
 
 -- a multiplicative hash of the folded tag, of which the top seven of 32 bits are taken
-abbrev pub markPlace : ℕ → ℕ
-markPlace tag = foldedTag tag * hashFactor / lowBits % markCount
+abbrev pub markIndex : ℕ → ℕ
+markIndex tag = foldedTag tag * hashFactor / lowBits % markCount

@@ -4,7 +4,7 @@ ghost use Prim.Native.Nat.{_+_, _<_, _≤_};
 ghost use Rattle.image.specs.Image.{mostSlots, slotLength, wireSlot, wireCode, HasSlot};
 ghost use Rattle.table.specs.Chain.{chainOf, HoldsPositions};
 ghost use Rattle.table.specs.Check.{Accepted};
-ghost use Rattle.table.specs.Blocks.{wireOf, blocksOf, blockAt, wiringAt};
+ghost use Rattle.table.specs.Blocks.{wireOf, blocksOf, blockAt, configAt};
 use image::ABORT_WIRE_OFFSET;
 use image::KIND_OFFSET;
 use image::MOST_SLOTS;
@@ -19,7 +19,7 @@ pub struct Wire {
 }
 
 // What a call reads of a block: its kind and its two wires.
-pub struct Wiring {
+pub struct BlockConfig {
     pub kind: u8,
     pub start: Wire,
     pub abort: Wire,
@@ -96,19 +96,19 @@ fn abort_wire(
 }
 
 // The kind and the wires of block i.
-pub fn wiring_at(
+pub fn config_at(
     image: &[u8],
     slots: &[u8; MOST_SLOTS],
     positions: &[u8; MOST_SLOTS + 1],
     count: usize,
     i: usize,
-) -> Wiring
+) -> BlockConfig
     requires { ⌜ Accepted (now image) count (now slots) (now positions) ⌝ }
     requires { ⌜ i < count ⌝ }
-    ensures { λ r. ⌜ r ≡ wiringAt (blocksOf (now (image .entry))) i ⌝ }
+    ensures { λ r. ⌜ r ≡ configAt (blocksOf (now (image .entry))) i ⌝ }
 {
     let kind = kind_at(image, slots, positions, count, i);
     let start = start_wire(image, slots, positions, count, i);
     let abort = abort_wire(image, slots, positions, count, i);
-    Wiring { kind, start, abort }
+    BlockConfig { kind, start, abort }
 }

@@ -7,7 +7,7 @@ ghost use Rattle.image.specs.Image.{slotLength, wireSlot, wireCode, tagOf, HasS
 ghost use Rattle.table.specs.Header.{HeaderOk};
 ghost use Rattle.table.specs.Chain.{chainOf, HoldsPositions, Holds};
 ghost use Rattle.table.specs.Record.{kindOk, wireOk, abortOk, tagAmong, recordCheck, recordsCheck};
-ghost use Rattle.table.specs.Marks.{markCount, markPlace};
+ghost use Rattle.table.specs.Marks.{markCount, markIndex};
 use crate::chain::on_chain;
 use crate::place::Place;
 use crate::place::Verdict;
@@ -93,8 +93,8 @@ const HASH_FACTOR: u64 = 2654435769;
 const LOW_BITS: u64 = 33554432;
 
 // Where a tag is marked.
-fn mark_place(tag: u64) -> usize
-    ensures { λ r. ⌜ r ≡ markPlace tag ⌝ }
+fn mark_index(tag: u64) -> usize
+    ensures { λ r. ⌜ r ≡ markIndex tag ⌝ }
     ensures { λ r. ⌜ r < markCount ⌝ }
 {
     let folded = (tag % WORD_MODULUS + tag / WORD_MODULUS) % WORD_MODULUS;
@@ -162,7 +162,7 @@ pub fn check_records(
     let mut i: usize = 0;
     while i < count {
         let slot = slots[i];
-        let place = mark_place(tag_number(image, slot));
+        let place = mark_index(tag_number(image, slot));
         let repeated = is_repeated(image, slots, positions, count, i, slot, marks[place]);
         let verdict = check_record(image, positions, repeated, slot);
         let Verdict::Passed = verdict else {

@@ -18,8 +18,8 @@ abbrev μ-loop : tie.MeasureT-loop
 loop-holds : tie.Need-loop-holds Inv-loop μ-loop
 loop-holds c = serving-start _ _ _ _ _
 
-wiring-at-requires : tie.Need-wiring-at-requires Inv-loop μ-loop
-wiring-at-requires c κs =
+config-at-requires : tie.Need-config-at-requires Inv-loop μ-loop
+config-at-requires c κs =
     let entry = c .before .before .before .before .before .before .before in
     (entry .pre .0, c .loop-test .taken)
 
@@ -31,7 +31,7 @@ serve-requires c κs =
     let a = entry .args in
     let L = in-loop .loop in
     serving-callable (blocksOf (a .image .now)) (record { frame = a .frame .now }) (a .state .now) (a .report .now) (a .journal .now)
-    (L .i) (L .state) (L .report) (L .journal) (L .events) (L .inv) _ (read .wiring-at .ensures)
+    (L .i) (L .state) (L .report) (L .journal) (L .events) (L .inv) _ (read .config-at .ensures)
     (a .image .now) (a .count) (entry .pre .0 .answer) refl (entry .pre .1 .0) (entry .pre .1 .1) (read .before .loop-test .taken)
 
 add-i : tie.Need-add-i Inv-loop μ-loop
@@ -56,7 +56,7 @@ loop-again c =
     let L = in-loop .loop in
     let n = accepted-blocks (a .image .now) (a .count) (entry .pre .0 .answer) in
     serving-on (blocksOf (a .image .now)) (record { frame = a .frame .now }) (a .state .now) (a .report .now) (a .journal .now)
-    (L .i) (L .state) (L .report) (L .journal) (L .events) (L .inv) _ (read .wiring-at .ensures)
+    (L .i) (L .state) (L .report) (L .journal) (L .events) (L .inv) _ (read .config-at .ensures)
     _ _ _ _ (omega (arith, n, read .before .loop-test .taken)) (called .serve .ensures)
 
 same-length : tie.Need-same-length Inv-loop μ-loop
@@ -99,7 +99,7 @@ serve-all-spec =
     Inv-loop
     μ-loop
     loop-holds
-    wiring-at-requires
+    config-at-requires
     serve-requires
     add-i
     loop-less

@@ -9,7 +9,7 @@ use Rattle.words.specs.Word.{Bytes}
 use Rattle.image.specs.Image.{HasSlot}
 use Rattle.table.specs.Header.{HeaderOk}
 use Rattle.table.specs.Chain.{chainOf}
-use Rattle.table.specs.Marks.{markPlace}
+use Rattle.table.specs.Marks.{markIndex}
 use Rattle.table.proofs.ChainLaws.{slot-is, slot-has}
 use Rattle.table.proofs.RecordLaws.{Recording, markOf, recording-start, recording-end, recording-failed, recording-on, not-marked}
 use Rattle.table.proofs.record.check_records.Statement.{statement}
@@ -38,10 +38,10 @@ bytes : (p : Loop) → Bytes (image p)
 bytes p = λ i. p .before .shared-slice-known .given i .fits
 
 -- the test of the loop, from within it
-abbrev turn : tie.After-mark-place Inv-loop μ-loop → tie.In-loop Inv-loop μ-loop
+abbrev turn : tie.After-mark-index Inv-loop μ-loop → tie.In-loop Inv-loop μ-loop
 turn p = p .before .before .before
 
-abbrev marked : tie.After-check-record Inv-loop μ-loop → tie.After-mark-place Inv-loop μ-loop
+abbrev marked : tie.After-check-record Inv-loop μ-loop → tie.After-mark-index Inv-loop μ-loop
 marked p = p .before .before
 
 -- the record of a turn
@@ -56,9 +56,9 @@ module _ (t : tie.In-loop Inv-loop μ-loop) where
   has = slot-has (image (t .before)) _ _ _ (header-ok (t .before)) (entry (t .before) .pre .1) (t .before .loop .i) (t .loop-test .taken)
 
 -- where its tag is marked
-its-mark : (p : tie.After-mark-place Inv-loop μ-loop)
-    → p .mark-place .result ≡ markOf (image (turn p .before)) (getD (entry (turn p .before) .args .slots .now) (turn p .before .loop .i) 0)
-its-mark p = p .mark-place .ensures .0 ∙ ap markPlace (p .before .tag-number .ensures)
+its-mark : (p : tie.After-mark-index Inv-loop μ-loop)
+    → p .mark-index .result ≡ markOf (image (turn p .before)) (getD (entry (turn p .before) .args .slots .now) (turn p .before .loop .i) 0)
+its-mark p = p .mark-index .ensures .0 ∙ ap markIndex (p .before .tag-number .ensures)
 
 loop-holds : tie.Need-loop-holds Inv-loop μ-loop
 loop-holds c = recording-start _ _ refl
@@ -69,11 +69,11 @@ element-copy-out-slot c = omega (arith, c .loop-test .taken, entry (c .before) .
 tag-number-requires : tie.Need-tag-number-requires Inv-loop μ-loop
 tag-number-requires c κs = has (c .before)
 
-mark-place-requires : tie.Need-mark-place-requires Inv-loop μ-loop
-mark-place-requires c κs = search needs
+mark-index-requires : tie.Need-mark-index-requires Inv-loop μ-loop
+mark-index-requires c κs = search needs
 
 array-read-is-repeated : tie.Need-array-read-is-repeated Inv-loop μ-loop
-array-read-is-repeated c = omega (arith, c .mark-place .ensures .1, turn c .before .loop .inv .sized)
+array-read-is-repeated c = omega (arith, c .mark-index .ensures .1, turn c .before .loop .inv .sized)
 
 is-repeated-requires : tie.Need-is-repeated-requires Inv-loop μ-loop
 is-repeated-requires c κs =
@@ -106,7 +106,7 @@ returns c =
 array-write-marks : tie.Need-array-write-marks Inv-loop μ-loop
 array-write-marks c =
     let m = marked (c .before .before) in
-    omega (arith, m .mark-place .ensures .1, turn m .before .loop .inv .sized)
+    omega (arith, m .mark-index .ensures .1, turn m .before .loop .inv .sized)
 
 add-i : tie.Need-add-i Inv-loop μ-loop
 add-i c =
@@ -123,7 +123,7 @@ loop-again c =
     let t = turn m in
     let p = t .before in
     recording-on (image p) (p .loop .marks) (p .loop .i) (header-ok p) (bytes p) (p .loop .inv) (in-chain t) _ _ (its-slot t) (its-mark m) _ _
-    (r .before .is-repeated .ensures) (r .check-record .ensures) (m .mark-place .ensures .1) (c .enum-told .given .1)
+    (r .before .is-repeated .ensures) (r .check-record .ensures) (m .mark-index .ensures .1) (c .enum-told .given .1)
 
 returns-2 : tie.Need-returns-2 Inv-loop μ-loop
 returns-2 c =
@@ -139,7 +139,7 @@ check-records-spec =
     loop-holds
     element-copy-out-slot
     tag-number-requires
-    mark-place-requires
+    mark-index-requires
     array-read-is-repeated
     is-repeated-requires
     check-record-requires

@@ -1,7 +1,7 @@
--- `blocks::wiring_at` meets its contract: each part by its own function.
+-- `blocks::config_at` meets its contract: each part by its own function.
 use borrow.Author.Needs.{needs}
-use Rattle.table.proofs.blocks.wiring_at.Statement.{statement}
-use Rattle.table.proofs.blocks.wiring_at.Tie as tie
+use Rattle.table.proofs.blocks.config_at.Statement.{statement}
+use Rattle.table.proofs.blocks.config_at.Tie as tie
 
 kind-at-requires : tie.Need-kind-at-requires
 kind-at-requires c κs = search needs
@@ -15,5 +15,5 @@ abort-wire-requires c κs = search needs
 returns : tie.Need-returns
 returns c = λ j. record { kind = c .before .before .kind-at .ensures j; start = c .before .start-wire .ensures j; abort = c .abort-wire .ensures j }
 
-pub wiring-at-spec : {M : Type 1} → statement M
-wiring-at-spec = tie.close (tie.spec kind-at-requires start-wire-requires abort-wire-requires returns)
+pub config-at-spec : {M : Type 1} → statement M
+config-at-spec = tie.close (tie.spec kind-at-requires start-wire-requires abort-wire-requires returns)
