@@ -175,6 +175,17 @@ endedSteps =
     ∷ withJob 0 (working 0) shows row 1 0 Done done 0 []
     ∷ startOff (working 0) shows row 2 0 Dormant noFlags 0 []
     ∷ [])
+    -- an Error and an Aborted shown with start 1 ask for no reset: they stay while start is 1, and go when it falls
+    ∷ case 1
+    (withJob 0 (error 5 0) shows row 3 1 Error failed 5 (startedAnd (event Failed 5 0))
+    ∷ withJob 0 (working 0) shows row 1 0 Error failed 5 []
+    ∷ startOff (working 0) shows row 2 0 Dormant noFlags 0 []
+    ∷ [])
+    ∷ case 5
+    (withAbort 0 (working 0) shows row 4 0 Aborted aborted 0 (startedAnd (event AbortedEvent 0 0))
+    ∷ withJob 0 (working 0) shows row 1 0 Aborted aborted 0 []
+    ∷ startOff (working 0) shows row 2 0 Dormant noFlags 0 []
+    ∷ [])
     -- the abort input is not looked at
     ∷ case 5
     (withJob 7 (complete 0) shows row 3 1 Done done 0 (event Start 0 7 ∷ event DoneEvent 0 7 ∷ [])

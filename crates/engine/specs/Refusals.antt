@@ -117,6 +117,10 @@ stateRows =
     ∷ inState (recordOffset .job) 1 gives refusal 21 1
     ∷ inState (recordOffset .last) 1 gives refusal 21 1
     ∷ inState (second + recordOffset .elapsed + 7) 1 gives refusal 21 2
+    ∷ inState (recordOffset .flags) busy gives refusal 21 1
+    ∷ inState (second + recordOffset .request) 1 gives refusal 21 2
+    ∷ inState (recordOffset .code) 5 gives refusal 21 1
+    ∷ inState (recordOffset .timeout) 9 gives refusal 21 1
     ∷ inState second 7 gives refusal 21 2
     -- Executing has busy only, no request and no code; the unnamed bits and bytes are zero
     ∷ withState (record-of 0 Executing busy) gives value 1
@@ -130,7 +134,9 @@ stateRows =
     ∷ withState (set (record-of 0 Executing busy) 11 1) gives refusal 21 1
     -- Aborting too, on kinds 5 to 14
     ∷ withState (record-of 0 Aborting busy) gives value 1
+    ∷ withState (record-of 0 Aborting (busy + done)) gives refusal 21 1
     ∷ withState (asked 0 Aborting busy 1) gives refusal 21 1
+    ∷ withState (coded 0 Aborting busy 5) gives refusal 21 1
     ∷ plainAndContinuous (record-of second Aborting busy) gives value 0
     ∷ plainAndContinuous (record-of 0 Aborting busy) gives refusal 21 1
     -- Error has error only, and a code; 1 only for To kinds
@@ -149,6 +155,7 @@ stateRows =
     -- Aborted has aborted only, on kinds 5 to 8
     ∷ withState (record-of 0 Aborted aborted) gives value 1
     ∷ withState (record-of 0 Aborted busy) gives refusal 21 1
+    ∷ withState (record-of 0 Aborted (aborted + busy)) gives refusal 21 1
     ∷ withState (record-of second Aborted aborted) gives refusal 21 2
     ∷ plainAndContinuous (record-of 0 Aborted aborted) gives refusal 21 1
     -- Resetting has one of done, error, aborted, or on a level kind busy, each on the kinds that show it
@@ -156,6 +163,10 @@ stateRows =
     ∷ withState (coded 0 Resetting error 5) gives value 1
     ∷ withState (record-of 0 Resetting aborted) gives value 1
     ∷ withState (record-of 0 Resetting 0) gives refusal 21 1
+    ∷ withState (record-of 0 Resetting (done + aborted)) gives refusal 21 1
+    ∷ withState (record-of 0 Resetting error) gives refusal 21 1
+    ∷ withState (coded second Resetting error TimedOut) gives refusal 21 2
+    ∷ withState (asked second Resetting done 1) gives refusal 21 2
     ∷ withState (record-of 0 Resetting busy) gives refusal 21 1
     ∷ withState (record-of second Resetting busy) gives value 0
     ∷ withState (record-of second Resetting aborted) gives refusal 21 2
@@ -207,6 +218,10 @@ frameRows =
     ∷ withFrame (set (piece secondEntry 1) (secondEntry + pieceOffset 0 + 1) 1) gives refusal 31 2
     ∷ withFrame (set (piece 0 1) (pieceOffset 0 + 4) 255) gives value 1
     ∷ withFrame (set (piece 0 1) (pieceOffset 1 + 4) 1) gives refusal 31 1
+    ∷ withFrame (set (set (piece 0 1) (entryOffset .count) 2) (pieceOffset 1) 3) gives refusal 31 1
+    ∷ withFrame (set (set (piece 0 1) (entryOffset .count) 2) (pieceOffset 1) 2) gives refusal 31 1
+    ∷ withFrame (set (set (piece 0 1) (entryOffset .count) 4) (pieceOffset 3 + 1) 1) gives refusal 31 1
+    ∷ withFrame (set (set (piece 0 1) (entryOffset .count) 4) (pieceOffset 3 + 4) 1) gives value 1
     ∷ inFrame (secondEntry + pieceOffset 3 + 7) 1 gives refusal 31 2
     ∷ []
 
