@@ -84,14 +84,14 @@ abbrev aborted : ℕ
 aborted = 8
 
 -- a state whose record that begins at `at` has this step and these flags; the same with a code, and with a request
-abbrev record-of : ℕ → ℕ → ℕ → List ℕ
-record-of at step flags = set (set (input .state) at step) (at + recordOffset .flags) flags
+abbrev recordOf : ℕ → ℕ → ℕ → List ℕ
+recordOf at step flags = set (set (input .state) at step) (at + recordOffset .flags) flags
 
 abbrev coded : ℕ → ℕ → ℕ → ℕ → List ℕ
-coded at step flags code = set (record-of at step flags) (at + recordOffset .code) code
+coded at step flags code = set (recordOf at step flags) (at + recordOffset .code) code
 
 abbrev asked : ℕ → ℕ → ℕ → ℕ → List ℕ
-asked at step flags request = set (record-of at step flags) (at + recordOffset .request) request
+asked at step flags request = set (recordOf at step flags) (at + recordOffset .request) request
 
 -- a frame whose entry that begins at `at` has one piece, of this reply
 abbrev piece : ℕ → ℕ → List ℕ
@@ -123,60 +123,60 @@ stateRows =
     ∷ inState (recordOffset .timeout) 9 gives refusal 21 1
     ∷ inState second 7 gives refusal 21 2
     -- Executing has busy only, no request and no code; the unnamed bits and bytes are zero
-    ∷ withState (record-of 0 Executing busy) gives value 1
-    ∷ withState (record-of 0 Executing 0) gives refusal 21 1
-    ∷ withState (record-of 0 Executing (busy + done)) gives refusal 21 1
-    ∷ withState (record-of 0 Executing (busy + 16)) gives refusal 21 1
+    ∷ withState (recordOf 0 Executing busy) gives value 1
+    ∷ withState (recordOf 0 Executing 0) gives refusal 21 1
+    ∷ withState (recordOf 0 Executing (busy + done)) gives refusal 21 1
+    ∷ withState (recordOf 0 Executing (busy + 16)) gives refusal 21 1
     ∷ withState (asked 0 Executing busy 1) gives refusal 21 1
     ∷ withState (coded 0 Executing busy 5) gives refusal 21 1
-    ∷ withState (set (record-of 0 Executing busy) 3 1) gives refusal 21 1
-    ∷ withState (set (record-of 0 Executing busy) 10 1) gives refusal 21 1
-    ∷ withState (set (record-of 0 Executing busy) 11 1) gives refusal 21 1
+    ∷ withState (set (recordOf 0 Executing busy) 3 1) gives refusal 21 1
+    ∷ withState (set (recordOf 0 Executing busy) 10 1) gives refusal 21 1
+    ∷ withState (set (recordOf 0 Executing busy) 11 1) gives refusal 21 1
     -- Aborting too, on kinds 5 to 14
-    ∷ withState (record-of 0 Aborting busy) gives value 1
-    ∷ withState (record-of 0 Aborting (busy + done)) gives refusal 21 1
+    ∷ withState (recordOf 0 Aborting busy) gives value 1
+    ∷ withState (recordOf 0 Aborting (busy + done)) gives refusal 21 1
     ∷ withState (asked 0 Aborting busy 1) gives refusal 21 1
     ∷ withState (coded 0 Aborting busy 5) gives refusal 21 1
-    ∷ plainAndContinuous (record-of second Aborting busy) gives value 0
-    ∷ plainAndContinuous (record-of 0 Aborting busy) gives refusal 21 1
+    ∷ plainAndContinuous (recordOf second Aborting busy) gives value 0
+    ∷ plainAndContinuous (recordOf 0 Aborting busy) gives refusal 21 1
     -- Error has error only, and a code; 1 only for To kinds
     ∷ withState (coded 0 Error error TimedOut) gives value 1
-    ∷ withState (record-of 0 Error error) gives refusal 21 1
+    ∷ withState (recordOf 0 Error error) gives refusal 21 1
     ∷ withState (coded 0 Error (error + busy) 5) gives refusal 21 1
     ∷ withState (coded second Error error 2) gives value 0
     ∷ withState (coded second Error error TimedOut) gives refusal 21 2
     -- Done has done only, and on a level kind no request, which is at most 1; not on kinds 13 and 14
     ∷ withState (asked 0 Done done 1) gives value 0
     ∷ withState (asked 0 Done done 2) gives refusal 21 1
-    ∷ withState (record-of 0 Done (done + aborted)) gives refusal 21 1
-    ∷ withState (record-of second Done done) gives value 0
+    ∷ withState (recordOf 0 Done (done + aborted)) gives refusal 21 1
+    ∷ withState (recordOf second Done done) gives value 0
     ∷ withState (asked second Done done 1) gives refusal 21 2
-    ∷ plainAndContinuous (record-of second Done done) gives refusal 21 2
+    ∷ plainAndContinuous (recordOf second Done done) gives refusal 21 2
     -- Aborted has aborted only, on kinds 5 to 8
-    ∷ withState (record-of 0 Aborted aborted) gives value 1
-    ∷ withState (record-of 0 Aborted busy) gives refusal 21 1
-    ∷ withState (record-of 0 Aborted (aborted + busy)) gives refusal 21 1
-    ∷ withState (record-of second Aborted aborted) gives refusal 21 2
-    ∷ plainAndContinuous (record-of 0 Aborted aborted) gives refusal 21 1
+    ∷ withState (recordOf 0 Aborted aborted) gives value 1
+    ∷ withState (recordOf 0 Aborted busy) gives refusal 21 1
+    ∷ withState (recordOf 0 Aborted (aborted + busy)) gives refusal 21 1
+    ∷ withState (recordOf second Aborted aborted) gives refusal 21 2
+    ∷ plainAndContinuous (recordOf 0 Aborted aborted) gives refusal 21 1
     -- Resetting has one of done, error, aborted, or on a level kind busy, each on the kinds that show it
     ∷ withState (asked 0 Resetting done 1) gives value 0
     ∷ withState (coded 0 Resetting error 5) gives value 1
-    ∷ withState (record-of 0 Resetting aborted) gives value 1
-    ∷ withState (record-of 0 Resetting 0) gives refusal 21 1
-    ∷ withState (record-of 0 Resetting (done + aborted)) gives refusal 21 1
-    ∷ withState (record-of 0 Resetting error) gives refusal 21 1
+    ∷ withState (recordOf 0 Resetting aborted) gives value 1
+    ∷ withState (recordOf 0 Resetting 0) gives refusal 21 1
+    ∷ withState (recordOf 0 Resetting (done + aborted)) gives refusal 21 1
+    ∷ withState (recordOf 0 Resetting error) gives refusal 21 1
     ∷ withState (coded second Resetting error TimedOut) gives refusal 21 2
     ∷ withState (asked second Resetting done 1) gives refusal 21 2
-    ∷ withState (record-of 0 Resetting busy) gives refusal 21 1
-    ∷ withState (record-of second Resetting busy) gives value 0
-    ∷ withState (record-of second Resetting aborted) gives refusal 21 2
-    ∷ plainAndContinuous (record-of second Resetting done) gives refusal 21 2
+    ∷ withState (recordOf 0 Resetting busy) gives refusal 21 1
+    ∷ withState (recordOf second Resetting busy) gives value 0
+    ∷ withState (recordOf second Resetting aborted) gives refusal 21 2
+    ∷ plainAndContinuous (recordOf second Resetting done) gives refusal 21 2
     -- elapsed is at most 4,294,967,296; the stored time limit is an edge TI kind's, the stored time-out an edge To kind's
-    ∷ withState (set (record-of 0 Executing busy) (recordOffset .elapsed + 4) 1) gives value 1
-    ∷ withState (set (set (record-of 0 Executing busy) (recordOffset .elapsed + 4) 1) (recordOffset .elapsed) 1) gives refusal 21 1
-    ∷ withState (set (record-of 0 Executing busy) (recordOffset .timeout) 9) gives value 1
-    ∷ withState (set (record-of 0 Executing busy) (recordOffset .limit) 9) gives refusal 21 1
-    ∷ withState (set (record-of second Resetting busy) (second + recordOffset .timeout) 9) gives refusal 21 2
+    ∷ withState (set (recordOf 0 Executing busy) (recordOffset .elapsed + 4) 1) gives value 1
+    ∷ withState (set (set (recordOf 0 Executing busy) (recordOffset .elapsed + 4) 1) (recordOffset .elapsed) 1) gives refusal 21 1
+    ∷ withState (set (recordOf 0 Executing busy) (recordOffset .timeout) 9) gives value 1
+    ∷ withState (set (recordOf 0 Executing busy) (recordOffset .limit) 9) gives refusal 21 1
+    ∷ withState (set (recordOf second Resetting busy) (second + recordOffset .timeout) 9) gives refusal 21 2
     -- the first position
     ∷ withState (set (set (input .state) (recordOffset .job) 1) (second + recordOffset .job) 1) gives refusal 21 1
     ∷ []
