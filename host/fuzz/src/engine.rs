@@ -2,30 +2,13 @@
 
 use crate::call::{Call, Left, Name};
 use crate::guard::{Guarded, Lie};
+use lane::ffi::raw::{lane_check, lane_find, lane_fresh, lane_scan};
 use std::cell::Cell;
 use std::ffi::{c_int, c_void};
 use std::io::Write;
 use std::ptr::{null, null_mut};
 
-// The archive is linked by the binding.
-use lane as _;
-
 extern "C" {
-    fn lane_check(image: *const u8, image_len: usize) -> u64;
-    fn lane_find(image: *const u8, image_len: usize, tag: *const u8, tag_len: usize) -> u64;
-    fn lane_fresh(image: *const u8, image_len: usize, state: *mut u8, state_len: usize) -> u64;
-    fn lane_scan(
-        image: *const u8,
-        image_len: usize,
-        state: *mut u8,
-        state_len: usize,
-        frame: *const u8,
-        frame_len: usize,
-        report: *mut u8,
-        report_len: usize,
-        journal: *mut u8,
-        journal_len: usize,
-    ) -> u64;
     fn signal(number: c_int, handler: extern "C" fn(c_int)) -> *mut c_void;
     fn write(file: c_int, bytes: *const u8, count: usize) -> isize;
     fn _exit(status: c_int) -> !;

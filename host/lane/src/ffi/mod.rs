@@ -2,6 +2,7 @@
 //!
 //! Every function takes slices of any length and content, and answers a value or a refusal.
 
+pub mod raw;
 mod scan;
 mod table;
 

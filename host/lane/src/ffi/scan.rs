@@ -1,23 +1,8 @@
 //! `lane_fresh` and `lane_scan`, which write the buffers lent to them.
 
+use super::raw::{lane_fresh, lane_scan};
 use super::unpack;
 use crate::Refusal;
-
-extern "C" {
-    fn lane_fresh(image: *const u8, image_len: usize, state: *mut u8, state_len: usize) -> u64;
-    fn lane_scan(
-        image: *const u8,
-        image_len: usize,
-        state: *mut u8,
-        state_len: usize,
-        frame: *const u8,
-        frame_len: usize,
-        report: *mut u8,
-        report_len: usize,
-        journal: *mut u8,
-        journal_len: usize,
-    ) -> u64;
-}
 
 /// Makes the state of a table fresh: the number of its blocks. A refused call leaves it alone.
 ///

@@ -1,12 +1,8 @@
 //! `lane_check` and `lane_find`, which only read.
 
+use super::raw::{lane_check, lane_find};
 use super::unpack;
 use crate::Refusal;
-
-extern "C" {
-    fn lane_check(image: *const u8, image_len: usize) -> u64;
-    fn lane_find(image: *const u8, image_len: usize, tag: *const u8, tag_len: usize) -> u64;
-}
 
 /// Checks a table image: the number of its blocks.
 ///
