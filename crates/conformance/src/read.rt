@@ -1,6 +1,7 @@
 // Report entries and journal events, read from bytes.
 use block::event::Event;
-use layout::event::EVENT_BYTES;
+use layout::event;
+use layout::report;
 ghost use mathlib.Core.Path.{_≡_};
 ghost use Prim.Native.Nat.{_+_, _*_, _≤_};
 ghost use lib.ListN.{length};
@@ -30,11 +31,11 @@ pub fn report_at(s: &[u8], at: usize) -> Report
 {
     Report {
         flags: s[at],
-        used: s[at + 1],
-        passes: s[at + 2],
-        step: s[at + 3],
-        code: words::u16_at(s, at + 4),
-        job: words::u32_at(s, at + 8),
+        used: s[at + report::USED_OFFSET],
+        passes: s[at + report::PASSES_OFFSET],
+        step: s[at + report::STEP_OFFSET],
+        code: words::u16_at(s, at + report::CODE_OFFSET),
+        job: words::u32_at(s, at + report::JOB_OFFSET),
     }
 }
 
@@ -45,11 +46,11 @@ pub fn posted_at(s: &[u8], at: usize) -> Posted
 {
     let event = Event {
         kind: s[at],
-        code: words::u16_at(s, at + 2),
-        job: words::u32_at(s, at + 4),
+        code: words::u16_at(s, at + event::CODE_OFFSET),
+        job: words::u32_at(s, at + event::JOB_OFFSET),
     };
     Posted {
-        position: s[at + 1],
+        position: s[at + event::POSITION_OFFSET],
         event,
     }
 }
@@ -58,7 +59,7 @@ pub fn posted_at(s: &[u8], at: usize) -> Posted
 pub fn readable(count: usize, journal: &[u8]) -> usize
     ensures { λ r. ⌜ eventLength * r ≤ length (now (journal .entry)) ⌝ }
 {
-    let room = journal.len() / EVENT_BYTES;
+    let room = journal.len() / event::EVENT_BYTES;
     if count < room {
         return count;
     }

@@ -1,24 +1,22 @@
--- One block's step: the flags of a block by their byte, the events of a call appended, the four parts of `served` put together, and an idle
+-- One block's step: step, flags and inputs by their bytes, the events of a call appended, the four parts of `served` put together, and an idle
 -- block, which leaves all but its report entry as it was. For the proofs of
 -- `input_of`, `inputs_at`, `is_idle`, `append_events`, `write_call` and `serve`.
 use Prim.Native.Nat.{ℕ, zero, suc, _+_, _*_, _≤_}
-use native.Mathlib.Nat.{add-zero}
 use native.Mathlib.Numerals.{add-one}
 use native.Mathlib.Omega.{arith}
 use mathlib.Core.List.{List, [], _∷_, _++_, append-nil}
 use mathlib.Core.Bool.{true, false, not}
 use mathlib.Core.Path.{_≡_, refl, ap, sym, _∙_}
 use lib.Dec.{eqb, lit<}
-use lib.ListN.{length, take, drop, getD, replicate}
-use lib.Seq.{getD-take, getD-drop}
+use lib.ListN.{length, take, replicate}
 use Rattle.table.specs.declared.blocks.BlockConfig.{BlockConfig}
 use borrow.Author.Tests.{not-true, eqb-true}
 use Rattle.layout.specs.Buffer.{recordLength, entryLength, reportLength, eventLength, byteAt, part, put}
 use Rattle.layout.specs.RecordLayout.{recordOffset, decodeFlags, encodeRecord, decodeRecord}
-use Rattle.layout.specs.EntryLayout.{decodeEntry, decodeInputs}
+use Rattle.layout.specs.EntryLayout.{entryOffset, decodeEntry, decodeInputs}
 use Rattle.layout.specs.ReportLayout.{encodeReport}
 use Rattle.layout.specs.EventLayout.{encodeEvent, encodeEvents}
-use Rattle.layout.proofs.BufferLaws.{put-own, put-nothing, put-next, part-length}
+use Rattle.layout.proofs.BufferLaws.{put-own, put-nothing, put-next, part-byte, part-length}
 use Rattle.membership.proofs.Logic.{and-left, and-right}
 use Rattle.layout.proofs.RecordLaws.{encode-fresh, decode-fresh}
 use Rattle.layout.proofs.CheckLaws.{dormant-zeros}
@@ -35,19 +33,18 @@ use Rattle.engine.specs.Inputs.{flagsIn, inputsOf}
 use Rattle.engine.specs.Callable.{Callable}
 use Rattle.engine.specs.Serve.{Buffers, recordIn, entryIn, idle, callIn, written, served}
 
--- "1 flags": byte 1 of the block's record
-pub flags-at : (state : List ℕ) (i : ℕ) → decodeFlags (getD state (recordLength * i + recordOffset .flags) 0) ≡ flagsIn state i
+-- the step and the flags of a block's record and the inputs of its entry, each by its byte
+pub step-at : (state : List ℕ) (i : ℕ) → byteAt state (recordLength * i + recordOffset .step) ≡ recordIn state i .step
 unfolding decodeRecord
-flags-at state i = ap decodeFlags (sym (getD-take recordLength (drop (recordLength * i) state) (recordOffset .flags) 0 (lit< tt) ∙ getD-drop (recordLength * i) state (recordOffset .flags) 0))
+step-at state i = part-byte recordLength i (recordOffset .step) state (lit< tt)
 
--- the step and the inputs: byte 0 of the block's record, and of its entry
-pub step-at : (state : List ℕ) (i : ℕ) → getD state (recordLength * i) 0 ≡ recordIn state i .step
+pub flags-at : (state : List ℕ) (i : ℕ) → decodeFlags (byteAt state (recordLength * i + recordOffset .flags)) ≡ flagsIn state i
 unfolding decodeRecord
-step-at state i = sym (getD-take recordLength (drop (recordLength * i) state) 0 0 (lit< tt) ∙ rw add-zero at (getD-drop (recordLength * i) state 0 0))
+flags-at state i = ap decodeFlags (part-byte recordLength i (recordOffset .flags) state (lit< tt))
 
-pub bits-at : (frame : List ℕ) (i : ℕ) → decodeInputs (getD frame (entryLength * i) 0) ≡ entryIn frame i .inputs
+pub bits-at : (frame : List ℕ) (i : ℕ) → decodeInputs (byteAt frame (entryLength * i + entryOffset .inputs)) ≡ entryIn frame i .inputs
 unfolding decodeEntry
-bits-at frame i = ap decodeInputs (sym (getD-take entryLength (drop (entryLength * i) frame) 0 0 (lit< tt) ∙ rw add-zero at (getD-drop (entryLength * i) frame 0 0)))
+bits-at frame i = ap decodeInputs (part-byte entryLength i (entryOffset .inputs) frame (lit< tt))
 
 -- the events of a call: the first `count` of two, appended to a journal of n events
 module _ (n position : ℕ) (first second : Event) (count : ℕ) (journal : List ℕ) where
@@ -117,8 +114,9 @@ module _ (b : BlockConfig) (i : ℕ) (frame state report journal : List ℕ) (ev
   unfolding decodeRecord encodeEvents
   idle-is c idles ea newReport er =
       let own = part recordLength i state in
-      let dormant : byteAt own 0 ≡ Dormant = eqb-true (byteAt own 0) 0 (and-left (eqb (byteAt own 0) 0) (not (inputs .start)) idles) in
-      let off : inputs .start ≡ false = not-true (inputs .start) (and-right (eqb (byteAt own 0) 0) (not (inputs .start)) idles) in
+      let step = byteAt own (recordOffset .step) in
+      let dormant : step ≡ Dormant = eqb-true step Dormant (and-left (eqb step Dormant) (not (inputs .start)) idles) in
+      let off : inputs .start ≡ false = not-true (inputs .start) (and-right (eqb step Dormant) (not (inputs .start)) idles) in
       let full : length own ≡ recordLength = part-length recordLength i state (c .own) in
       let zeros : own ≡ replicate recordLength 0 = dormant-zeros own (omega arith) (b .kind) dormant full (c .isSound) in
       let fresh : recordIn state i ≡ freshRecord = ap decodeRecord zeros ∙ decode-fresh in

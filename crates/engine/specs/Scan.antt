@@ -23,12 +23,13 @@ pub record ScanResult : Type 0 where
   pub report : List ℕ
   pub journal : List ℕ
 
--- what the code answers where it calls no block, by the table checks: their refusal, unchanged; without one there are no events so far
+-- what a scan answers that the table checks turn back: their refusal, unchanged. The code asks it only of a refusal (`scanAfter` is the rule); an
+-- accepted table, which never comes here, would have no events.
 abbrev pub answerByTable : Checked → Scanned
 answerByTable (TableBlocks n) = Events 0
 answerByTable (TableRefused number place) = Refused number place
 
--- the same by the checks below the table's
+-- the same of one that the checks below the table's turn back (`scanBy` is the rule)
 abbrev pub answerByChecks : Verdict → Scanned
 answerByChecks Passed = Events 0
 answerByChecks (Failed number place) = Refused number place

@@ -47,7 +47,7 @@ fn serve_all(
     events
 }
 
-// The answer before any block is called, by the table checks: a refusal passes out unchanged.
+// The answer of a scan that the table checks turn back: their refusal, unchanged. Called with a refusal only; of an accepted table it would say no events.
 fn by_table(answer: Checked) -> Scanned
     ensures { λ r. ⌜ r ≡ answerByTable answer ⌝ }
 {
@@ -57,7 +57,7 @@ fn by_table(answer: Checked) -> Scanned
     }
 }
 
-// The same, by the checks below the table's.
+// The same of one that the checks below the table's turn back.
 fn by_checks(verdict: Verdict) -> Scanned
     ensures { λ r. ⌜ r ≡ answerByChecks verdict ⌝ }
 {

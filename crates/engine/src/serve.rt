@@ -4,8 +4,10 @@ use block::call::CallResult;
 use block::entry::Inputs;
 use block::record::Record;
 use layout::entry::ENTRY_BYTES;
+use layout::entry::INPUTS_OFFSET;
 use layout::event::EVENT_BYTES;
 use layout::record::RECORD_BYTES;
+use layout::record::STEP_OFFSET;
 use layout::report::REPORT_BYTES;
 use table::blocks::BlockConfig;
 ghost use mathlib.Core.Path.{_≡_};
@@ -26,7 +28,7 @@ fn inputs_at(b: BlockConfig, i: usize, frame: &[u8], state: &[u8]) -> Inputs
     requires { ⌜ (entryLength * i < length (now frame)) × Reached b (now state) ⌝ }
     ensures { λ r. ⌜ r ≡ inputsOf b (flagsIn (now (state .entry))) (entryIn (now (frame .entry)) i .inputs) ⌝ }
 {
-    let bits = layout::entry::decode_inputs(frame[ENTRY_BYTES * i]);
+    let bits = layout::entry::decode_inputs(frame[ENTRY_BYTES * i + INPUTS_OFFSET]);
     let start = b.start;
     let abort = b.abort;
     wired(start, abort, state, bits)
@@ -37,7 +39,7 @@ fn is_idle(inputs: Inputs, i: usize, state: &[u8]) -> bool
     requires { ⌜ recordLength * i < length (now state) ⌝ }
     ensures { λ r. ⌜ r ≡ idle inputs (recordIn (now (state .entry)) i) ⌝ }
 {
-    (state[RECORD_BYTES * i] == Record::DORMANT) & !inputs.start
+    (state[RECORD_BYTES * i + STEP_OFFSET] == Record::DORMANT) & !inputs.start
 }
 
 // The call of the block at index i: its record as it stands in the state, and its entry.

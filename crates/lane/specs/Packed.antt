@@ -20,7 +20,7 @@ unfoldable pub packed : Answer → ℕ
 packed (value v) = v
 packed (refusal number place) = number * numberWeight + place
 
--- taken apart as a host does it: below 2^32 a value, else a refusal's number and its place, by division
+-- taken apart as a host does it: the upper half is 0 and the lower a value, or they are a refusal's number and its place
 unfoldable pub unpacked : ℕ → Answer
 unpacked n = cond (ltb n numberWeight) (value n) (refusal (n / numberWeight) (n % numberWeight))
 

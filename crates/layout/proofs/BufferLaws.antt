@@ -104,6 +104,10 @@ module _ (size i : ℕ) (v s : List ℕ) (full : length v ≡ size) (fits : size
       by true e = part-before j (ltb-true j i e)
       by false e = part-after j (omega (arith, ltb-false j i e))
 
+-- a byte of a part, by its offset there
+pub part-byte : (size i at : ℕ) (s : List ℕ) → at < size → byteAt s (size * i + at) ≡ byteAt (part size i s) at
+part-byte size i at s l = sym (getD-take size (drop (size * i) s) at 0 l ∙ getD-drop (size * i) s at 0)
+
 pub part-length : (size i : ℕ) (s : List ℕ) → size * i + size ≤ length s → length (part size i s) ≡ size
 part-length size i s h = length-take-le size (drop (size * i) s) (simp length-drop (omega arith))
 

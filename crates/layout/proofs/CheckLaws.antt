@@ -20,7 +20,7 @@ use Rattle.block.proofs.Shapes.{fresh-is}
 use Rattle.block.proofs.SoundSteps.{at-step, at-dormant}
 use Rattle.layout.specs.Buffer.{recordLength, entryLength, jobWidth, byteAt}
 use Rattle.layout.specs.RecordLayout.{flagsByte, decodeFlags, recordOffset, decodeRecord, recordForm, soundBytes}
-use Rattle.layout.specs.EntryLayout.{pieceLength, decodePiece, pieceZero, entryOffset, pieceOffset, decodeEntry, headForm, entryForm, entryBytes}
+use Rattle.layout.specs.EntryLayout.{pieceLength, pieceField, decodePiece, pieceZero, entryOffset, pieceOffset, decodeEntry, headForm, entryForm, entryBytes}
 use Rattle.layout.proofs.BitLaws.{flags-back}
 use Rattle.membership.proofs.Logic.{and-left, and-right, and-join}
 use Rattle.layout.proofs.RecordLaws.{form-bytes, sound-form, sound-record}
@@ -224,13 +224,13 @@ module _ (s : List ℕ) (l : recordLength ≤ length s) where
 
 -- one piece: its zero byte, and its fields
 module _ (s : List ℕ) (at : ℕ) (l : at + pieceLength ≤ length s) where
-  piece-number : numberAt pieceLength s at ≡ byteAt s at + 256 * byteAt s (at + 1) + 65536 * numberAt 2 s (at + 2) + 4294967296 * numberAt 4 s (at + 4)
+  piece-number : numberAt pieceLength s at ≡ byteAt s at + 256 * byteAt s (at + pieceField .unnamed) + 65536 * numberAt 2 s (at + pieceField .code) + 4294967296 * numberAt 4 s (at + pieceField .clock)
   piece-number = omega (arith, number-split 4 4 s at (omega arith), number-split 2 2 s at (omega arith), two-bytes s at (omega arith))
 
-  pub piece-within : leb (numberAt 2 s at) ErrorReply && codeFits (byteAt s at) (numberAt 2 s (at + 2)) ≡ pieceZero s at && pieceForm (decodePiece s at)
+  pub piece-within : leb (numberAt 2 s at) ErrorReply && codeFits (byteAt s at) (numberAt 2 s (at + pieceField .code)) ≡ pieceZero s at && pieceForm (decodePiece s at)
   piece-within =
       rw (pair-low s at (omega arith) ErrorReply (omega arith))
-      (swapped (leb (byteAt s at) ErrorReply) (pieceZero s at) (codeFits (byteAt s at) (numberAt 2 s (at + 2))))
+      (swapped (leb (byteAt s at) ErrorReply) (pieceZero s at) (codeFits (byteAt s at) (numberAt 2 s (at + pieceField .code))))
     where
       swapped : (reply zero code : Bool) → reply && zero && code ≡ zero && (reply && code)
       swapped true true code = refl
@@ -239,7 +239,7 @@ module _ (s : List ℕ) (at : ℕ) (l : at + pieceLength ≤ length s) where
       swapped false false code = refl
 
   pub piece-past : eqb (numberAt pieceLength s at) 0 ≡ pieceZero s at && zeroPiece (decodePiece s at)
-  piece-past = parts (numberAt pieceLength s at) (byteAt s at) (byteAt s (at + 1)) (numberAt 2 s (at + 2)) (numberAt 4 s (at + 4)) piece-number
+  piece-past = parts (numberAt pieceLength s at) (byteAt s at) (byteAt s (at + pieceField .unnamed)) (numberAt 2 s (at + pieceField .code)) (numberAt 4 s (at + pieceField .clock)) piece-number
     where
       parts : (n a b c d : ℕ) → n ≡ a + 256 * b + 65536 * c + 4294967296 * d → eqb n 0 ≡ eqb b 0 && (eqb a 0 && eqb c 0 && eqb d 0)
       parts n a b c d e =

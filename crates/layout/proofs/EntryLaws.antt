@@ -15,7 +15,7 @@ use Rattle.block.specs.Entry.{mostPieces, entryFits}
 use Rattle.block.specs.declared.entry.Piece.{Piece}
 use Rattle.block.specs.declared.entry.Entry.{Entry}
 use Rattle.layout.specs.Buffer.{entryLength, byteAt, put, jobWidth}
-use Rattle.layout.specs.EntryLayout.{pieceLength, entryOffset, headLength, pieceOffset, piecesEnd, pieceZero, entryForm, entryBytes}
+use Rattle.layout.specs.EntryLayout.{pieceLength, pieceField, entryOffset, headLength, pieceOffset, piecesEnd, pieceZero, entryForm, entryBytes}
 use Rattle.layout.specs.EntryLayout.{encodePiece, decodePiece, encodePieces, inputsByte, encodeEntry, decodeEntry}
 use Rattle.layout.proofs.Fits.{All, nil, cons, PieceFits, EntryFits}
 use Rattle.layout.proofs.BitLaws.{inputs-bound, inputs-trip, inputs-back}
@@ -64,10 +64,10 @@ pub record FormBytes (s : List ℕ) : Type 0 where
   pub inputs : byteAt s (entryOffset .inputs) < 4
   pub pairFirst : byteAt s (entryOffset .unnamedPair) ≡ 0
   pub pairSecond : byteAt s (entryOffset .unnamedPair + 1) ≡ 0
-  pub first : byteAt s (pieceOffset 0 + 1) ≡ 0
-  pub second : byteAt s (pieceOffset 1 + 1) ≡ 0
-  pub third : byteAt s (pieceOffset 2 + 1) ≡ 0
-  pub fourth : byteAt s (pieceOffset 3 + 1) ≡ 0
+  pub first : byteAt s (pieceOffset 0 + pieceField .unnamed) ≡ 0
+  pub second : byteAt s (pieceOffset 1 + pieceField .unnamed) ≡ 0
+  pub third : byteAt s (pieceOffset 2 + pieceField .unnamed) ≡ 0
+  pub fourth : byteAt s (pieceOffset 3 + pieceField .unnamed) ≡ 0
 
 pub form-bytes : (s : List ℕ) → entryForm s ≡ true → FormBytes s
 unfolding entryForm
@@ -76,7 +76,7 @@ form-bytes s h =
     let first = byteAt s (entryOffset .unnamedPair) in
     let second = byteAt s (entryOffset .unnamedPair + 1) in
     let z : ℕ → Bool = λ i. pieceZero s (pieceOffset i) in
-    let at : ℕ → ℕ = λ i. byteAt s (pieceOffset i + 1) in
+    let at : ℕ → ℕ = λ i. byteAt s (pieceOffset i + pieceField .unnamed) in
     let p = each (ltb inputs 4) (eqb first 0 ∷ eqb second 0 ∷ z 0 ∷ z 1 ∷ z 2 ∷ z 3 ∷ []) h in
     record {
       inputs = ltb-true inputs 4 (p .0);
@@ -89,18 +89,18 @@ form-bytes s h =
     }
 
 -- a piece written back, and the rest
-piece-back : (i : ℕ) (s rest : List ℕ) → Bytes s → i + pieceLength ≤ length s → byteAt s (i + 1) ≡ 0 → rest ≡ drop (i + pieceLength) s
+piece-back : (i : ℕ) (s rest : List ℕ) → Bytes s → i + pieceLength ≤ length s → byteAt s (i + pieceField .unnamed) ≡ 0 → rest ≡ drop (i + pieceLength) s
     → encodePiece (decodePiece s i) ++ rest ≡ drop i s
 piece-back i s rest b h z e =
     let e₁ : i + 1 ≡ suc i = omega arith in
     let e₂ : suc (suc i) ≡ i + 2 = omega arith in
     let e₄ : i + 2 + 2 ≡ i + 4 = omega arith in
     let e₈ : i + 4 + 4 ≡ i + 8 = omega arith in
-    let code : List ℕ = bytes 2 (numberAt 2 s (i + 2)) in
-    let clock : List ℕ = bytes 4 (numberAt 4 s (i + 4)) in
-    let two : clock ++ rest ≡ drop (i + 4) s = field-back 4 (i + 4) s rest b (omega arith) (rw e₈ e) in
-    let three : code ++ clock ++ rest ≡ drop (i + 2) s =
-    append-assoc code clock rest ∙ field-back 2 (i + 2) s (clock ++ rest) b (omega arith) (rw e₄ two) in
+    let code : List ℕ = bytes 2 (numberAt 2 s (i + pieceField .code)) in
+    let clock : List ℕ = bytes 4 (numberAt 4 s (i + pieceField .clock)) in
+    let two : clock ++ rest ≡ drop (i + pieceField .clock) s = field-back 4 (i + pieceField .clock) s rest b (omega arith) (rw e₈ e) in
+    let three : code ++ clock ++ rest ≡ drop (i + pieceField .code) s =
+    append-assoc code clock rest ∙ field-back 2 (i + pieceField .code) s (clock ++ rest) b (omega arith) (rw e₄ two) in
     byte-back i (byteAt s i) s _ (omega arith) refl (byte-back (suc i) 0 s _ (omega arith) (sym (rw e₁ at z)) (rw e₂ three))
 
 pub encode-decode : (s : List ℕ) → length s ≡ entryLength → Bytes s → entryForm s ≡ true → encodeEntry (decodeEntry s) ≡ s
@@ -125,7 +125,7 @@ encode-decode s l b h =
 
 -- what is read fits
 piece-fits : (i : ℕ) (s : List ℕ) → Bytes s → PieceFits (decodePiece s i)
-piece-fits i s b = record { reply = b i; code = field-bound 2 (i + 2) s b; clock = field-bound 4 (i + 4) s b }
+piece-fits i s b = record { reply = b i; code = field-bound 2 (i + pieceField .code) s b; clock = field-bound 4 (i + pieceField .clock) s b }
 
 pub decode-fits : (s : List ℕ) → Bytes s → EntryFits (decodeEntry s)
 unfolding decodeEntry
@@ -161,7 +161,7 @@ encode-length e l = omega (arith, pieces-length (e .pieces) l)
 
 -- the zero byte of each of four pieces
 abbrev zero-of : List Piece → ℕ → ℕ
-zero-of ps i = byteAt (encodePieces ps) (pieceLength * i + 1)
+zero-of ps i = byteAt (encodePieces ps) (pieceLength * i + pieceField .unnamed)
 
 pieces-form : (ps : List Piece) → length ps ≡ mostPieces
     → (zero-of ps 0 ≡ 0) × (zero-of ps 1 ≡ 0) × (zero-of ps 2 ≡ 0) × (zero-of ps 3 ≡ 0)

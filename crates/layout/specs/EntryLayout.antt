@@ -16,15 +16,24 @@ use Rattle.block.specs.declared.entry.Entry.{Entry}
 abbrev pub pieceLength : ℕ
 pieceLength = 8
 
+-- where each of them begins in the piece; the reply is first
+pub record PieceOffsets : Type 0 where
+  pub unnamed : ℕ
+  pub code : ℕ
+  pub clock : ℕ
+
+abbrev pub pieceField : PieceOffsets
+pieceField = record { unnamed = 1; code = 2; clock = 4 }
+
 abbrev pub encodePiece : Piece → List ℕ
 encodePiece p = p .reply ∷ 0 ∷ [] ++ (bytes 2 (p .code) ++ bytes 4 (p .clock))
 
 abbrev pub decodePiece : List ℕ → ℕ → Piece
-decodePiece s at = record { reply = byteAt s at; code = numberAt 2 s (at + 2); clock = numberAt 4 s (at + 4) }
+decodePiece s at = record { reply = byteAt s at; code = numberAt 2 s (at + pieceField .code); clock = numberAt 4 s (at + pieceField .clock) }
 
 -- whether its zero byte is zero
 abbrev pub pieceZero : List ℕ → ℕ → Bool
-pieceZero s at = eqb (byteAt s (at + 1)) 0
+pieceZero s at = eqb (byteAt s (at + pieceField .unnamed)) 0
 
 unfoldable pub encodePieces : List Piece → List ℕ
 encodePieces [] = []

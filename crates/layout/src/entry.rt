@@ -44,6 +44,11 @@ const TIME_OUT_OFFSET: usize = 16;
 
 const CLOCK_OFFSET: usize = 20;
 
+// Within a piece; its reply is first.
+const PIECE_CODE_OFFSET: usize = 2;
+
+const PIECE_CLOCK_OFFSET: usize = 4;
+
 const FIRST_PIECE: usize = HEAD_BYTES;
 
 const SECOND_PIECE: usize = FIRST_PIECE + PIECE_BYTES;
@@ -67,8 +72,8 @@ fn decode_piece(s: &[u8], at: usize) -> Piece
 {
     Piece {
         reply: s[at],
-        code: words::u16_at(s, at + 2),
-        clock: words::u32_at(s, at + 4),
+        code: words::u16_at(s, at + PIECE_CODE_OFFSET),
+        clock: words::u32_at(s, at + PIECE_CLOCK_OFFSET),
     }
 }
 
@@ -115,7 +120,8 @@ fn piece_form(s: &[u8], at: usize) -> bool
     requires { ⌜ at + pieceLength ≤ length (now s) ⌝ }
     ensures { λ r. ⌜ r ≡ pieceZero (now (s .entry)) at && pieceForm (decodePiece (now (s .entry)) at) ⌝ }
 {
-    (words::u16_at(s, at) <= MOST_REPLY) & block::entry::code_fits(s[at], words::u16_at(s, at + 2))
+    (words::u16_at(s, at) <= MOST_REPLY)
+        & block::entry::code_fits(s[at], words::u16_at(s, at + PIECE_CODE_OFFSET))
 }
 
 // Piece `i` of an entry that has `count` of them, at its place; a piece past the count is zero.

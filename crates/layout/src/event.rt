@@ -9,6 +9,13 @@ ghost use Rattle.layout.specs.EventLayout.{encodeEvent};
 // Bytes of a journal event.
 pub const EVENT_BYTES: usize = 8;
 
+// Where its fields begin; the kind is first.
+pub const POSITION_OFFSET: usize = 1;
+
+pub const CODE_OFFSET: usize = 2;
+
+pub const JOB_OFFSET: usize = 4;
+
 pub fn encode_event(position: u8, v: Event) -> [u8; EVENT_BYTES]
     ensures { λ b. ⌜ b ≡ encodeEvent position v ⌝ }
 {

@@ -11,6 +11,17 @@ ghost use Rattle.layout.specs.ReportLayout.{encodeReport};
 // Bytes of a report entry.
 pub const REPORT_BYTES: usize = 12;
 
+// Where its fields begin; the flags are first.
+pub const USED_OFFSET: usize = 1;
+
+pub const PASSES_OFFSET: usize = 2;
+
+pub const STEP_OFFSET: usize = 3;
+
+pub const CODE_OFFSET: usize = 4;
+
+pub const JOB_OFFSET: usize = 8;
+
 pub fn encode_report(a: CallResult) -> [u8; REPORT_BYTES]
     ensures { λ b. ⌜ b ≡ encodeReport (outcomeOf a) ⌝ }
 {

@@ -8,11 +8,11 @@ use native.Mathlib.Nat.{lt-of-le-of-lt}
 use lib.Dec.{eqb, lit<}
 use lib.ListN.{take}
 use Rattle.kind.specs.Kind.{isEdge, hasTimeLimit, hasTimeOut, isContinuous}
-use Rattle.clock.specs.Clock.{tick, pastTimeOut}
+use Rattle.clock.specs.Clock.{mostElapsed, tick, pastTimeOut}
 use Rattle.clock.specs.declared.Timer.{Timer}
 use Rattle.clock.proofs.ClockLaws.{tick-held}
 use Rattle.layout.proofs.Fits.{All, nil, cons, RecordFits, PieceFits, EntryFits, EventFits}
-use Rattle.block.specs.Record.{Dormant, Executing, Done, Error, Aborting, Aborted, Resetting, freshRecord, atStep, failedWith}
+use Rattle.block.specs.Record.{Dormant, Executing, Done, Error, Aborting, Aborted, Resetting, TimedOut, freshRecord, atStep, failedWith}
 use Rattle.block.specs.Event.{Start, DoneEvent, Failed, AbortedEvent, Withdrawn, emitted, noEvent, eventOf}
 use Rattle.block.specs.Entry.{Complete, ErrorReply}
 use Rattle.block.specs.Dormant.{dormant, started}
@@ -89,7 +89,7 @@ module _ (r : Record) (h : RecordFits r) where
 
 tick-fits : (t : Timer) (reading : ℕ) → reading < 256 ^ 4 → TimerFits (tick t reading)
 unfolding tick
-tick-fits t reading h = record { last = h; elapsed = let l = tick-held t reading in let m : 4294967296 < 256 ^ 8 = lit< tt in lt-of-le-of-lt l m }
+tick-fits t reading h = record { last = h; elapsed = let l = tick-held t reading in let m : mostElapsed < 256 ^ 8 = lit< tt in lt-of-le-of-lt l m }
 
 pub fresh-fits : RecordFits freshRecord
 fresh-fits = record { step = lit< tt; job = lit< tt; code = lit< tt; limit = lit< tt; timeout = lit< tt; last = lit< tt; elapsed = lit< tt }
@@ -146,7 +146,7 @@ module _ (k : ℕ) (i : Inputs) (e : Entry) (fe : EntryFits e) where
   judge-fits continuous timeout w r g h =
       let t = timed-fits r h w g in
       either PassFits (eqb (w .reply) ErrorReply) (goes-on (w .used) (failedWith (w .code) (timed w r)) (failed-fits (timed w r) t (w .code) (g .code)))
-      (either PassFits (pastTimeOut timeout (w .timer)) (goes-on (w .used) (failedWith 1 (timed w r)) (failed-fits (timed w r) t 1 (lit< tt)))
+      (either PassFits (pastTimeOut timeout (w .timer)) (goes-on (w .used) (failedWith TimedOut (timed w r)) (failed-fits (timed w r) t TimedOut (lit< tt)))
       (either PassFits (eqb (w .reply) Complete && not continuous) (goes-on (w .used) (atStep Done (timed w r)) (at-fits (timed w r) t Done (lit< tt)))
       (stops (w .used) (timed w r) t)))
 

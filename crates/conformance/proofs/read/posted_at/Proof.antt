@@ -1,6 +1,7 @@
 -- `read::posted_at` meets its contract, field by field.
 use Prim.Native.Nat.{_+_}
 use Rattle.layout.specs.Buffer.{byteAt}
+use Rattle.layout.specs.EventLayout.{eventOffset}
 use borrow.Author.Needs.{needs}
 use Rattle.conformance.proofs.read.posted_at.Statement.{statement}
 use Rattle.conformance.proofs.read.posted_at.Tie as tie
@@ -30,7 +31,7 @@ returns : tie.Need-returns
 returns c =
     let a = c .before .before .before .before .before .args in
     λ i. record {
-      position = byteAt (a .s .now) (a .at + 1);
+      position = byteAt (a .s .now) (a .at + eventOffset .position);
       event = record { kind = byteAt (a .s .now) (a .at); code = c .before .before .u16-at .ensures i; job = c .before .u32-at .ensures i };
     }
 

@@ -1,6 +1,7 @@
 -- `read::report_at` meets its contract, field by field.
 use Prim.Native.Nat.{_+_}
 use Rattle.layout.specs.Buffer.{byteAt}
+use Rattle.layout.specs.ReportLayout.{reportOffset}
 use borrow.Author.Needs.{needs}
 use Rattle.conformance.proofs.read.report_at.Statement.{statement}
 use Rattle.conformance.proofs.read.report_at.Tie as tie
@@ -43,9 +44,9 @@ returns c =
     let a = c .before .before .before .before .before .before .before .args in
     λ i. record {
       flags = byteAt (a .s .now) (a .at);
-      used = byteAt (a .s .now) (a .at + 1);
-      passes = byteAt (a .s .now) (a .at + 2);
-      step = byteAt (a .s .now) (a .at + 3);
+      used = byteAt (a .s .now) (a .at + reportOffset .used);
+      passes = byteAt (a .s .now) (a .at + reportOffset .passes);
+      step = byteAt (a .s .now) (a .at + reportOffset .step);
       code = c .before .u16-at .ensures i;
       job = c .u32-at .ensures i;
     }

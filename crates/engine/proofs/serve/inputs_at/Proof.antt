@@ -1,4 +1,4 @@
--- `serve::inputs_at` meets its contract: the bits are the entry's first byte.
+-- `serve::inputs_at` meets its contract: the bits are the entry's byte of inputs.
 use mathlib.Core.Path.{ap, _∙_}
 use borrow.Author.Needs.{needs}
 use Rattle.block.specs.declared.entry.Inputs.{Inputs}
@@ -9,6 +9,9 @@ use Rattle.engine.proofs.serve.inputs_at.Tie as tie
 
 mul-decode-inputs : tie.Need-mul-decode-inputs
 mul-decode-inputs c = search needs
+
+add-decode-inputs : tie.Need-add-decode-inputs
+add-decode-inputs c = search needs
 
 shared-slice-read-decode-inputs : tie.Need-shared-slice-read-decode-inputs
 shared-slice-read-decode-inputs c = search needs
@@ -30,4 +33,10 @@ returns c =
 pub inputs-at-spec : {M : Type 1} → statement M
 inputs-at-spec =
     tie.close
-    (tie.spec mul-decode-inputs shared-slice-read-decode-inputs decode-inputs-requires wired-requires returns)
+    (tie.spec
+    mul-decode-inputs
+    add-decode-inputs
+    shared-slice-read-decode-inputs
+    decode-inputs-requires
+    wired-requires
+    returns)

@@ -1,4 +1,4 @@
--- `serve::is_idle` meets its contract: the step is the record's first byte.
+-- `serve::is_idle` meets its contract: the step is the record's byte of that name.
 use mathlib.Core.Bool.{not, _&&_}
 use lib.Dec.{eqb}
 use borrow.Author.Needs.{needs}
@@ -10,6 +10,9 @@ use Rattle.engine.proofs.serve.is_idle.Tie as tie
 mul-result : tie.Need-mul-result
 mul-result c = search needs
 
+add-result : tie.Need-add-result
+add-result c = search needs
+
 shared-slice-read-result : tie.Need-shared-slice-read-result
 shared-slice-read-result c = search needs
 
@@ -19,4 +22,4 @@ returns c =
     λ j. eqb (step-at (a .state .now) (a .i) j) Dormant && not (a .inputs .start)
 
 pub is-idle-spec : {M : Type 1} → statement M
-is-idle-spec = tie.close (tie.spec mul-result shared-slice-read-result returns)
+is-idle-spec = tie.close (tie.spec mul-result add-result shared-slice-read-result returns)
