@@ -13,3 +13,4 @@ pub mod Locality
 pub mod BlockInvariant
 pub mod WorkedExamples
 pub mod CallExamples
+pub mod TimeExamples

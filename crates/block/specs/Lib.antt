@@ -16,3 +16,4 @@ pub mod History
 pub mod BlockInvariant
 pub mod WorkedExamples
 pub mod CallExamples
+pub mod TimeExamples

@@ -1,7 +1,7 @@
 -- Every refusal of fresh and of the scan below the table's, computed from bytes: a row for each way to be turned back, with its number and place, beside
 -- the nearest bytes that pass. The table's own rows, and what a row is, stand in crate table under the same name. Proved in proofs/Refusals.antt.
 use Prim.Native.Nat.{ℕ, _+_, _-_, _*_}
-use mathlib.Core.List.{List, [], _∷_, _++_}
+use mathlib.Core.List.{List, [], _∷_, _++_, map}
 use lib.ListN.{set, take, replicate}
 use Rattle.table.specs.Place.{Answer, value, refusal}
 use Rattle.table.specs.Check.{checkedAnswer}
@@ -9,7 +9,7 @@ use Rattle.table.specs.Refusals.{Row, _gives_, AnswersAll, image}
 use Rattle.block.specs.Record.{Executing, Done, Error, Aborting, Aborted, Resetting, TimedOut}
 use Rattle.layout.specs.Buffer.{recordLength, entryLength, reportLength, eventLength}
 use Rattle.layout.specs.RecordLayout.{recordOffset}
-use Rattle.layout.specs.EntryLayout.{entryOffset, pieceOffset}
+use Rattle.layout.specs.EntryLayout.{entryOffset, pieceOffset, pieceField}
 use Rattle.engine.specs.Fresh.{freshOf}
 use Rattle.engine.specs.Scan.{scanOf, scanAnswer}
 
@@ -46,26 +46,30 @@ withReport r = record { image = image; state = input .state; frame = input .fram
 abbrev withJournal : List ℕ → ScanInput
 withJournal j = record { image = image; state = input .state; frame = input .frame; report = input .report; journal = j }
 
--- the same tables with kinds 1 (ETrig), which has no abort wire, and 13 (LConC)
-abbrev plainAndContinuous : List ℕ → ScanInput
-plainAndContinuous s =
+-- the same blocks, of other kinds and without the abort wire: the first begins at byte 20 of the image, the second at byte 4
+abbrev ofKinds : ℕ → ℕ → List ℕ → ScanInput
+ofKinds kind kind2 s =
     record {
-      image = set (set (set (set image 20 1) 24 0) 25 0) 4 13;
+      image = set (set (set (set image 20 kind) 24 0) 25 0) 4 kind2;
       state = s;
       frame = input .frame;
       report = input .report;
       journal = input .journal;
     }
 
--- one byte of the state or of the frame changed; `second` and `secondEntry` are where position 2 begins
+-- kinds 1 (ETrig) and 13 (LConC)
+abbrev plainAndContinuous : List ℕ → ScanInput
+plainAndContinuous s = ofKinds 1 13 s
+
+-- one byte of the state or of the frame changed; `secondRecord` and `secondEntry` are where position 2 begins
 abbrev inState : ℕ → ℕ → ScanInput
 inState i b = withState (set (input .state) i b)
 
 abbrev inFrame : ℕ → ℕ → ScanInput
 inFrame i b = withFrame (set (input .frame) i b)
 
-abbrev second : ℕ
-second = recordLength
+abbrev secondRecord : ℕ
+secondRecord = recordLength
 
 abbrev secondEntry : ℕ
 secondEntry = entryLength
@@ -106,6 +110,12 @@ freshRows =
     ∷ replicate (2 * recordLength + 1) 0 gives refusal 20 0
     ∷ []
 
+-- a stored time limit on each edge TI kind, and a stored time-out on each edge To kind
+abbrev edgeBounds : List (Row ScanInput)
+edgeBounds =
+    map (λ (kind : ℕ). ofKinds kind 9 (set (recordOf 0 Executing busy) (recordOffset .limit) 9) gives value 1) (2 ∷ 4 ∷ 6 ∷ 8 ∷ [])
+    ++ map (λ (kind : ℕ). ofKinds kind 9 (set (recordOf 0 Executing busy) (recordOffset .timeout) 9) gives value 1) (3 ∷ 4 ∷ 7 ∷ 8 ∷ [])
+
 unfoldable pub stateRows : List (Row ScanInput)
 stateRows =
     input gives value 1
@@ -116,47 +126,55 @@ stateRows =
     -- 21: unsound; first position. Dormant is all zero, its job and reading too; step is at most 6
     ∷ inState (recordOffset .job) 1 gives refusal 21 1
     ∷ inState (recordOffset .last) 1 gives refusal 21 1
-    ∷ inState (second + recordOffset .elapsed + 7) 1 gives refusal 21 2
+    ∷ inState (secondRecord + recordOffset .elapsed + 7) 1 gives refusal 21 2
     ∷ inState (recordOffset .flags) busy gives refusal 21 1
-    ∷ inState (second + recordOffset .request) 1 gives refusal 21 2
+    ∷ inState (secondRecord + recordOffset .request) 1 gives refusal 21 2
     ∷ inState (recordOffset .code) 5 gives refusal 21 1
+    ∷ inState (recordOffset .unnamed) 1 gives refusal 21 1
+    ∷ inState (recordOffset .limit) 9 gives refusal 21 1
     ∷ inState (recordOffset .timeout) 9 gives refusal 21 1
-    ∷ inState second 7 gives refusal 21 2
+    ∷ inState secondRecord 7 gives refusal 21 2
     -- Executing has busy only, no request and no code; the unnamed bits and bytes are zero
     ∷ withState (recordOf 0 Executing busy) gives value 1
     ∷ withState (recordOf 0 Executing 0) gives refusal 21 1
     ∷ withState (recordOf 0 Executing (busy + done)) gives refusal 21 1
     ∷ withState (recordOf 0 Executing (busy + 16)) gives refusal 21 1
+    ∷ withState (recordOf 0 Executing (busy + 32)) gives refusal 21 1
+    ∷ withState (recordOf 0 Executing (busy + 64)) gives refusal 21 1
+    ∷ withState (recordOf 0 Executing (busy + 128)) gives refusal 21 1
     ∷ withState (asked 0 Executing busy 1) gives refusal 21 1
     ∷ withState (coded 0 Executing busy 5) gives refusal 21 1
-    ∷ withState (set (recordOf 0 Executing busy) 3 1) gives refusal 21 1
-    ∷ withState (set (recordOf 0 Executing busy) 10 1) gives refusal 21 1
-    ∷ withState (set (recordOf 0 Executing busy) 11 1) gives refusal 21 1
+    ∷ withState (set (recordOf 0 Executing busy) (recordOffset .unnamed) 1) gives refusal 21 1
+    ∷ withState (set (recordOf 0 Executing busy) (recordOffset .unnamedPair) 1) gives refusal 21 1
+    ∷ withState (set (recordOf 0 Executing busy) (recordOffset .unnamedPair + 1) 1) gives refusal 21 1
     -- Aborting too, on kinds 5 to 14
     ∷ withState (recordOf 0 Aborting busy) gives value 1
     ∷ withState (recordOf 0 Aborting (busy + done)) gives refusal 21 1
     ∷ withState (asked 0 Aborting busy 1) gives refusal 21 1
     ∷ withState (coded 0 Aborting busy 5) gives refusal 21 1
-    ∷ plainAndContinuous (recordOf second Aborting busy) gives value 0
+    ∷ plainAndContinuous (recordOf secondRecord Aborting busy) gives value 0
     ∷ plainAndContinuous (recordOf 0 Aborting busy) gives refusal 21 1
     -- Error has error only, and a code; 1 only for To kinds
     ∷ withState (coded 0 Error error TimedOut) gives value 1
     ∷ withState (recordOf 0 Error error) gives refusal 21 1
     ∷ withState (coded 0 Error (error + busy) 5) gives refusal 21 1
-    ∷ withState (coded second Error error 2) gives value 0
-    ∷ withState (coded second Error error TimedOut) gives refusal 21 2
+    ∷ withState (coded secondRecord Error error 2) gives value 0
+    ∷ withState (coded secondRecord Error error TimedOut) gives refusal 21 2
+    ∷ withState (set (asked secondRecord Error error 1) (secondRecord + recordOffset .code) 2) gives value 0
     -- Done has done only, and on a level kind no request, which is at most 1; not on kinds 13 and 14
     ∷ withState (asked 0 Done done 1) gives value 0
     ∷ withState (asked 0 Done done 2) gives refusal 21 1
     ∷ withState (recordOf 0 Done (done + aborted)) gives refusal 21 1
-    ∷ withState (recordOf second Done done) gives value 0
-    ∷ withState (asked second Done done 1) gives refusal 21 2
-    ∷ plainAndContinuous (recordOf second Done done) gives refusal 21 2
+    ∷ withState (coded 0 Done done 5) gives refusal 21 1
+    ∷ withState (recordOf secondRecord Done done) gives value 0
+    ∷ withState (asked secondRecord Done done 1) gives refusal 21 2
+    ∷ plainAndContinuous (recordOf secondRecord Done done) gives refusal 21 2
     -- Aborted has aborted only, on kinds 5 to 8
     ∷ withState (recordOf 0 Aborted aborted) gives value 1
     ∷ withState (recordOf 0 Aborted busy) gives refusal 21 1
     ∷ withState (recordOf 0 Aborted (aborted + busy)) gives refusal 21 1
-    ∷ withState (recordOf second Aborted aborted) gives refusal 21 2
+    ∷ withState (coded 0 Aborted aborted 5) gives refusal 21 1
+    ∷ withState (recordOf secondRecord Aborted aborted) gives refusal 21 2
     ∷ plainAndContinuous (recordOf 0 Aborted aborted) gives refusal 21 1
     -- Resetting has one of done, error, aborted, or on a level kind busy, each on the kinds that show it
     ∷ withState (asked 0 Resetting done 1) gives value 0
@@ -165,21 +183,31 @@ stateRows =
     ∷ withState (recordOf 0 Resetting 0) gives refusal 21 1
     ∷ withState (recordOf 0 Resetting (done + aborted)) gives refusal 21 1
     ∷ withState (recordOf 0 Resetting error) gives refusal 21 1
-    ∷ withState (coded second Resetting error TimedOut) gives refusal 21 2
-    ∷ withState (asked second Resetting done 1) gives refusal 21 2
+    ∷ withState (coded 0 Resetting done 5) gives refusal 21 1
+    ∷ withState (coded secondRecord Resetting error TimedOut) gives refusal 21 2
+    ∷ withState (asked secondRecord Resetting done 1) gives refusal 21 2
     ∷ withState (recordOf 0 Resetting busy) gives refusal 21 1
-    ∷ withState (recordOf second Resetting busy) gives value 0
-    ∷ withState (recordOf second Resetting aborted) gives refusal 21 2
-    ∷ plainAndContinuous (recordOf second Resetting done) gives refusal 21 2
+    ∷ withState (recordOf secondRecord Resetting busy) gives value 0
+    ∷ withState (asked secondRecord Resetting busy 1) gives refusal 21 2
+    ∷ withState (recordOf secondRecord Resetting aborted) gives refusal 21 2
+    ∷ plainAndContinuous (recordOf secondRecord Resetting done) gives refusal 21 2
     -- elapsed is at most 4,294,967,296; the stored time limit is an edge TI kind's, the stored time-out an edge To kind's
     ∷ withState (set (recordOf 0 Executing busy) (recordOffset .elapsed + 4) 1) gives value 1
     ∷ withState (set (set (recordOf 0 Executing busy) (recordOffset .elapsed + 4) 1) (recordOffset .elapsed) 1) gives refusal 21 1
     ∷ withState (set (recordOf 0 Executing busy) (recordOffset .timeout) 9) gives value 1
     ∷ withState (set (recordOf 0 Executing busy) (recordOffset .limit) 9) gives refusal 21 1
-    ∷ withState (set (recordOf second Resetting busy) (second + recordOffset .timeout) 9) gives refusal 21 2
+    ∷ withState (set (recordOf secondRecord Resetting busy) (secondRecord + recordOffset .timeout) 9) gives refusal 21 2
+    ∷ ofKinds 8 12 (set (recordOf secondRecord Executing busy) (secondRecord + recordOffset .limit) 9) gives refusal 21 2
+    ∷ ofKinds 8 12 (set (recordOf secondRecord Executing busy) (secondRecord + recordOffset .timeout) 9) gives refusal 21 2
     -- the first position
-    ∷ withState (set (set (input .state) (recordOffset .job) 1) (second + recordOffset .job) 1) gives refusal 21 1
-    ∷ []
+    ∷ withState (set (set (input .state) (recordOffset .job) 1) (secondRecord + recordOffset .job) 1) gives refusal 21 1
+    ∷ edgeBounds
+
+-- each byte of the piece after the last one, and of the fourth, not zero
+abbrev pastCount : List (Row ScanInput)
+pastCount =
+    map (λ (i : ℕ). withFrame (set (piece 0 1) (pieceOffset 1 + i) 1) gives refusal 31 1) (0 ∷ 1 ∷ 2 ∷ 3 ∷ 4 ∷ 5 ∷ 6 ∷ 7 ∷ [])
+    ++ map (λ (i : ℕ). inFrame (secondEntry + pieceOffset 3 + i) 1 gives refusal 31 2) (0 ∷ 1 ∷ 2 ∷ 3 ∷ 4 ∷ 5 ∷ 6 ∷ 7 ∷ [])
 
 unfoldable pub frameRows : List (Row ScanInput)
 frameRows =
@@ -190,6 +218,11 @@ frameRows =
     -- 31: an entry not as above; first position. Inputs, piece count, replies, the reset's never 2
     ∷ inFrame (entryOffset .inputs) 2 gives value 1
     ∷ inFrame (entryOffset .inputs) 4 gives refusal 31 1
+    ∷ inFrame (entryOffset .inputs) 8 gives refusal 31 1
+    ∷ inFrame (entryOffset .inputs) 16 gives refusal 31 1
+    ∷ inFrame (entryOffset .inputs) 32 gives refusal 31 1
+    ∷ inFrame (entryOffset .inputs) 64 gives refusal 31 1
+    ∷ inFrame (entryOffset .inputs) 128 gives refusal 31 1
     ∷ inFrame (entryOffset .count) 4 gives value 1
     ∷ inFrame (secondEntry + entryOffset .count) 5 gives refusal 31 2
     ∷ inFrame (entryOffset .abortReply) 1 gives value 1
@@ -200,30 +233,31 @@ frameRows =
     ∷ inFrame (entryOffset .abortReply) 2 gives refusal 31 1
     ∷ withFrame (set (set (input .frame) (entryOffset .abortReply) 2) (entryOffset .abortCode) 1) gives refusal 31 1
     ∷ withFrame (set (set (input .frame) (entryOffset .abortReply) 2) (entryOffset .abortCode) 2) gives value 1
+    ∷ withFrame (set (set (input .frame) (entryOffset .abortReply) 2) (entryOffset .abortCode + 1) 255) gives value 1
     ∷ inFrame (entryOffset .abortCode + 1) 1 gives refusal 31 1
     -- the unnamed bytes are zero
-    ∷ inFrame 6 1 gives refusal 31 1
-    ∷ inFrame (secondEntry + 7) 1 gives refusal 31 2
+    ∷ inFrame (entryOffset .unnamedPair) 1 gives refusal 31 1
+    ∷ inFrame (secondEntry + entryOffset .unnamedPair + 1) 1 gives refusal 31 2
     -- job, limit, time-out and clock are free
     ∷ inFrame (entryOffset .job) 255 gives value 1
     ∷ inFrame (entryOffset .limit) 255 gives value 1
     ∷ inFrame (entryOffset .timeout) 255 gives value 1
     ∷ inFrame (entryOffset .clock) 255 gives value 1
-    -- pieces, also those that a kind never uses; those past n are zero
+    -- pieces, also those that a kind never uses; those past n, which come last, are zero
     ∷ withFrame (piece 0 1) gives value 1
     ∷ withFrame (piece 0 3) gives refusal 31 1
     ∷ withFrame (piece 0 2) gives refusal 31 1
-    ∷ withFrame (set (piece 0 2) (pieceOffset 0 + 3) 1) gives value 1
-    ∷ withFrame (set (piece 0 1) (pieceOffset 0 + 2) 2) gives refusal 31 1
-    ∷ withFrame (set (piece secondEntry 1) (secondEntry + pieceOffset 0 + 1) 1) gives refusal 31 2
-    ∷ withFrame (set (piece 0 1) (pieceOffset 0 + 4) 255) gives value 1
-    ∷ withFrame (set (piece 0 1) (pieceOffset 1 + 4) 1) gives refusal 31 1
+    ∷ withFrame (set (piece 0 2) (pieceOffset 0 + pieceField .code) 1) gives refusal 31 1
+    ∷ withFrame (set (piece 0 2) (pieceOffset 0 + pieceField .code) 2) gives value 1
+    ∷ withFrame (set (piece 0 2) (pieceOffset 0 + pieceField .code + 1) 255) gives value 1
+    ∷ withFrame (set (piece 0 1) (pieceOffset 0 + pieceField .code) 2) gives refusal 31 1
+    ∷ withFrame (set (piece secondEntry 1) (secondEntry + pieceOffset 0 + pieceField .unnamed) 1) gives refusal 31 2
+    ∷ withFrame (set (piece 0 1) (pieceOffset 0 + pieceField .clock) 255) gives value 1
     ∷ withFrame (set (set (piece 0 1) (entryOffset .count) 2) (pieceOffset 1) 3) gives refusal 31 1
     ∷ withFrame (set (set (piece 0 1) (entryOffset .count) 2) (pieceOffset 1) 2) gives refusal 31 1
-    ∷ withFrame (set (set (piece 0 1) (entryOffset .count) 4) (pieceOffset 3 + 1) 1) gives refusal 31 1
-    ∷ withFrame (set (set (piece 0 1) (entryOffset .count) 4) (pieceOffset 3 + 4) 1) gives value 1
-    ∷ inFrame (secondEntry + pieceOffset 3 + 7) 1 gives refusal 31 2
-    ∷ []
+    ∷ withFrame (set (set (piece 0 1) (entryOffset .count) 4) (pieceOffset 3 + pieceField .unnamed) 1) gives refusal 31 1
+    ∷ withFrame (set (set (piece 0 1) (entryOffset .count) 4) (pieceOffset 3 + pieceField .clock) 1) gives value 1
+    ∷ pastCount
 
 unfoldable pub bufferRows : List (Row ScanInput)
 bufferRows =
@@ -238,9 +272,9 @@ bufferRows =
     -- the first that fails is given: the table's, then 20, 21, 30, 31, 40, 41
     ∷ record { image = []; state = []; frame = []; report = []; journal = [] } gives refusal 1 0
     ∷ record { image = image; state = []; frame = []; report = []; journal = [] } gives refusal 20 0
-    ∷ record { image = image; state = set (input .state) (second + recordOffset .job) 1; frame = []; report = []; journal = [] } gives refusal 21 2
+    ∷ record { image = image; state = set (input .state) (secondRecord + recordOffset .job) 1; frame = []; report = []; journal = [] } gives refusal 21 2
     ∷ record { image = image; state = input .state; frame = []; report = []; journal = [] } gives refusal 30 0
-    ∷ record { image = image; state = input .state; frame = set (input .frame) 6 1; report = []; journal = [] } gives refusal 31 1
+    ∷ record { image = image; state = input .state; frame = set (input .frame) (entryOffset .unnamedPair) 1; report = []; journal = [] } gives refusal 31 1
     ∷ record { image = image; state = input .state; frame = input .frame; report = []; journal = [] } gives refusal 40 0
     ∷ []
 

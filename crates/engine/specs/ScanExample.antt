@@ -1,13 +1,13 @@
 -- One accepted scan and two refused calls, with every byte that they leave: for the reader, and so that a wrong definition of the scan breaks a fact about
 -- bytes in this crate. Proved in proofs/Refusals.antt.
-use Prim.Native.Nat.{ℕ, _*_}
+use Prim.Native.Nat.{ℕ, _-_, _*_}
 use mathlib.Core.List.{List, [], _∷_, _++_}
 use mathlib.Core.Path.{_≡_}
 use lib.ListN.{replicate}
 use Rattle.table.specs.Refusals.{image}
 use Rattle.table.specs.declared.place.Place.the-variants.{Header, Position}
 use Rattle.table.specs.declared.check.Checked.the-variants.{Refused as FreshRefused}
-use Rattle.layout.specs.Buffer.{eventLength}
+use Rattle.layout.specs.Buffer.{recordLength, reportLength, eventLength}
 use Rattle.engine.specs.Told.{Told}
 use Rattle.engine.specs.Fresh.{freshOf}
 use Rattle.engine.specs.Scan.{scanOf}
@@ -31,13 +31,23 @@ second = 1 ∷ 0 ∷ 1 ∷ 1 ∷ 0 ∷ 0 ∷ 0 ∷ 0 ∷ 99 ∷ replicate 47 0
 unfoldable pub damaged : List ℕ
 damaged = 1 ∷ 0 ∷ 1 ∷ 1 ∷ 0 ∷ 0 ∷ 9 ∷ 0 ∷ 99 ∷ replicate 47 0
 
+-- what is lent: a report, a journal, and to fresh a state buffer one byte short
+abbrev report : List ℕ
+report = replicate (2 * reportLength) 255
+
+abbrev journal : List ℕ
+journal = replicate (4 * eventLength) 255
+
+abbrev short : List ℕ
+short = replicate (2 * recordLength - 1) 255
+
 abbrev pub told : List ℕ → Told
 told entry = record { frame = first ++ entry }
 
 -- theorem scan-example
 pub record ScanExample : Type 0 where
   -- The first is Done, in 2 passes with 1 piece, with the reset requested; so the second's start is false, and it is withdrawn and reset in 3 passes.
-  pub accepted : scanOf image state (told second) (replicate 24 255) (replicate 32 255)
+  pub accepted : scanOf image state (told second) report journal
       ≡ record {
         answer = Events 2;
         state =
@@ -47,6 +57,6 @@ pub record ScanExample : Type 0 where
         journal = 2 ∷ 1 ∷ 0 ∷ 0 ∷ 5 ∷ 0 ∷ 0 ∷ 0 ∷ 5 ∷ 2 ∷ 0 ∷ 0 ∷ 7 ∷ 0 ∷ 0 ∷ 0 ∷ replicate (2 * eventLength) 255;
       }
   -- a refusal leaves every lent buffer untouched
-  pub refused : scanOf image state (told damaged) (replicate 24 255) (replicate 32 255)
-      ≡ record { answer = Refused 31 (Position 2); state = state; report = replicate 24 255; journal = replicate 32 255 }
-  pub freshRefused : freshOf image (replicate 63 255) ≡ record { answer = FreshRefused 20 Header; state = replicate 63 255 }
+  pub refused : scanOf image state (told damaged) report journal
+      ≡ record { answer = Refused 31 (Position 2); state = state; report = report; journal = journal }
+  pub freshRefused : freshOf image short ≡ record { answer = FreshRefused 20 Header; state = short }

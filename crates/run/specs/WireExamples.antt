@@ -51,22 +51,22 @@ abbrev scan : List ℕ → Entry → Entry → Entry → Given
 scan cam gate alarm lamp = scanOn 4 (cam ++ (encodeEntry gate ++ (encodeEntry alarm ++ encodeEntry lamp)))
 
 -- an entry with nothing but its start bit and its job; on a wired block the bit counts for nothing
-abbrev pub idle : ℕ → Entry
-idle job = entryOf true false job 0 0 0 []
+abbrev pub startOnly : ℕ → Entry
+startOnly job = entryOf true false job 0 0 0 []
 
 -- CAM starts; the second piece is past the limit of 50, and is the last one used
 unfoldable pub starts : Given
-starts = scan camBytes (idle 20) (idle 30) (idle 40)
+starts = scan camBytes (startOnly 20) (startOnly 30) (startOnly 40)
 
 -- CAM goes on with the limit and the time-out of its start, not with those of this entry: all three pieces are used
 unfoldable pub works : Given
-works = scan (encodeEntry (entryOf true true 99 5 5 1060 (working 1070 ∷ working 1080 ∷ working 1090 ∷ []))) (idle 21) (idle 31) (idle 41)
+works = scan (encodeEntry (entryOf true true 99 5 5 1060 (working 1070 ∷ working 1080 ∷ working 1090 ∷ []))) (startOnly 21) (startOnly 31) (startOnly 41)
 
 -- CAM is past its time-out at the first piece, and shows its Error with start false; ALARM starts and fails with code 513; LAMP starts, and its
 -- elapsed reaches its greatest
 unfoldable pub timesOut : Given
 timesOut =
-    scan (encodeEntry (entryOf false false 99 0 0 1095 (working 1101 ∷ complete 1102 ∷ []))) (idle 22) (entryOf false false 32 0 0 0 (error 513 0 ∷ []))
+    scan (encodeEntry (entryOf false false 99 0 0 1095 (working 1101 ∷ complete 1102 ∷ []))) (startOnly 22) (entryOf false false 32 0 0 0 (error 513 0 ∷ []))
     (entryOf false false 42 0 0 0 (working 2000000000 ∷ working 4000000000 ∷ working 1000 ∷ []))
 
 -- CAM is reset by its request and starts again, and its complete piece is the last one used; GATE starts, uses one piece of two and ignores its
@@ -74,7 +74,7 @@ timesOut =
 unfoldable pub restarts : Given
 restarts =
     scan (encodeEntry (entryOf true false 8 50 100 1105 (complete 1110 ∷ error 5 1111 ∷ [])))
-    (entryOf false true 23 0 0 5 (working 6 ∷ complete 7 ∷ [])) (idle 33) (entryOf false false 43 0 0 1001 [])
+    (entryOf false true 23 0 0 5 (working 6 ∷ complete 7 ∷ [])) (startOnly 33) (entryOf false false 43 0 0 1001 [])
 
 -- before CAM times out, and all four
 unfoldable pub running : Scans

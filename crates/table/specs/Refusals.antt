@@ -2,7 +2,7 @@
 -- pass. Rows and what is said of them are for any entry point, so that the layers above can state theirs the same way. Proved in proofs/Refusals.antt.
 use Prim.Native.Nat.{ℕ}
 use mathlib.Core.Path.{_≡_}
-use mathlib.Core.List.{List, [], _∷_, _++_}
+use mathlib.Core.List.{List, [], _∷_, _++_, map}
 use lib.ListN.{set, take, drop, replicate}
 use Rattle.table.specs.Place.{Answer, value, refusal}
 use Rattle.table.specs.Check.{checkOf, checkedAnswer}
@@ -59,6 +59,12 @@ tagged tag = take 12 image ++ (tag ++ drop 20 image)
 -- a header of N slots with head 0
 abbrev header : ℕ → List ℕ
 header n = 1 ∷ n ∷ 0 ∷ 0 ∷ []
+
+-- each byte of the spare slot, not zero
+abbrev spareBytes : List (Row (List ℕ))
+spareBytes =
+    map (λ (i : ℕ). set image i 1 gives refusal 11 3)
+    (36 ∷ 37 ∷ 38 ∷ 39 ∷ 40 ∷ 41 ∷ 42 ∷ 43 ∷ 44 ∷ 45 ∷ 46 ∷ 47 ∷ 48 ∷ 49 ∷ 50 ∷ 51 ∷ [])
 
 -- check's rows: an image. `set image i b` is the image with b for its byte i.
 unfoldable pub checkRows : List (Row (List ℕ))
@@ -155,9 +161,7 @@ checkRows =
     ∷ set image 7 131 gives value 2
     ∷ set image 6 1 gives value 2
     ∷ set image 24 2 gives value 2
-    -- 11: not zero; lowest slot
-    ∷ set image 36 1 gives refusal 11 3
-    ∷ set image 51 1 gives refusal 11 3
+    -- 11: not zero; lowest slot. The bytes of the spare slot one by one come last
     ∷ set image 2 0 gives refusal 11 1
     -- the first that fails is given: header, chain, then each record through 7 to 10 before the next, then the spare slots
     ∷ set (set image 0 2) 1 0 gives refusal 2 0
@@ -165,7 +169,7 @@ checkRows =
     ∷ set (set image 28 0x20) 4 15 gives refusal 8 2
     ∷ set (set image 7 4) 12 0x20 gives refusal 8 1
     ∷ set (set image 9 1) 36 1 gives refusal 10 1
-    ∷ []
+    ∷ spareBytes
 
 -- find's rows: an image and a tag
 unfoldable pub findRows : List (Row (List ℕ × List ℕ))
