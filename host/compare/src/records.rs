@@ -1,12 +1,9 @@
 //! State records, sound and unsound, and frame entries, formed and not, for each kind.
 
 use crate::rng::Rng;
+use lane::{ENTRY_BYTES, MAX_PIECES, PIECE_BYTES, RECORD_BYTES};
 
-/// Bytes of a record, and of an entry.
-pub const RECORD: usize = 32;
-pub const ENTRY: usize = 56;
-
-/// Places of a record's fields.
+/// Where a record's fields begin, and its unnamed bytes.
 const STEP: usize = 0;
 const FLAGS: usize = 1;
 const REQUEST: usize = 2;
@@ -16,6 +13,30 @@ const LIMIT: usize = 12;
 const TIME_OUT: usize = 16;
 const READING: usize = 20;
 const ELAPSED: usize = 24;
+const UNNAMED: [usize; 3] = [3, 10, 11];
+
+/// Where an entry's fields begin, and its unnamed bytes.
+mod at_entry {
+    pub const INPUTS: usize = 0;
+    pub const COUNT: usize = 1;
+    pub const ABORT_REPLY: usize = 2;
+    pub const RESET_REPLY: usize = 3;
+    pub const ABORT_CODE: usize = 4;
+    pub const UNNAMED: [usize; 2] = [6, 7];
+    pub const JOB: usize = 8;
+    pub const LIMIT: usize = 12;
+    pub const TIME_OUT: usize = 16;
+    pub const CLOCK: usize = 20;
+    pub const PIECES: usize = 24;
+}
+
+/// Where a piece's fields begin, and its unnamed byte.
+mod at_piece {
+    pub const REPLY: usize = 0;
+    pub const UNNAMED: usize = 1;
+    pub const CODE: usize = 2;
+    pub const CLOCK: usize = 4;
+}
 
 const BUSY: u8 = 1;
 const DONE: u8 = 2;
@@ -110,10 +131,10 @@ fn may_request(has: Has, flag: u8) -> bool {
 }
 
 /// A sound record of a block that isn't Dormant.
-fn sound_open(rng: &mut Rng, kind: u8) -> [u8; RECORD] {
+fn sound_open(rng: &mut Rng, kind: u8) -> [u8; RECORD_BYTES] {
     let has = Has::of(kind);
     let (step, flag) = rng.pick(&shapes(has));
-    let mut record = [0; RECORD];
+    let mut record = [0; RECORD_BYTES];
     record[STEP] = step;
     record[FLAGS] = flag;
     record[REQUEST] = u8::from(may_request(has, flag) && rng.one_in(2));
@@ -135,15 +156,15 @@ fn sound_open(rng: &mut Rng, kind: u8) -> [u8; RECORD] {
 }
 
 /// A sound record.
-pub fn sound(rng: &mut Rng, kind: u8) -> [u8; RECORD] {
+pub fn sound(rng: &mut Rng, kind: u8) -> [u8; RECORD_BYTES] {
     match rng.below(6) {
-        0 => [0; RECORD],
+        0 => [0; RECORD_BYTES],
         _ => sound_open(rng, kind),
     }
 }
 
 /// Gives a record a step and a flag that don't go together on its kind.
-fn spoil_shape(rng: &mut Rng, has: Has, record: &mut [u8; RECORD]) {
+fn spoil_shape(rng: &mut Rng, has: Has, record: &mut [u8; RECORD_BYTES]) {
     let (step, flag) = loop {
         let shape = (rng.byte(1, 6), rng.pick(&[BUSY, DONE, ERROR, ABORTED]));
         if !shapes(has).contains(&shape) {
@@ -167,15 +188,15 @@ fn past_held(rng: &mut Rng) -> u64 {
 }
 
 /// A record that is unsound in one field.
-pub fn unsound(rng: &mut Rng, kind: u8) -> [u8; RECORD] {
+pub fn unsound(rng: &mut Rng, kind: u8) -> [u8; RECORD_BYTES] {
     let has = Has::of(kind);
     let mut record = sound_open(rng, kind);
     let flag = record[FLAGS];
     match rng.below(14) {
         // A Dormant record that is not all zero.
         0 => {
-            record = [0; RECORD];
-            record[rng.range(1, RECORD - 1)] = rng.byte(1, 255);
+            record = [0; RECORD_BYTES];
+            record[rng.range(1, RECORD_BYTES - 1)] = rng.byte(1, 255);
         }
         1 => record[STEP] = 0,
         2 => record[STEP] = rng.byte(7, 255),
@@ -201,7 +222,7 @@ pub fn unsound(rng: &mut Rng, kind: u8) -> [u8; RECORD] {
         }
         13 => put(&mut record, ELAPSED, &past_held(rng).to_le_bytes()),
         // An unnamed byte.
-        _ => record[rng.pick(&[3, 10, 11])] = rng.byte(1, 255),
+        _ => record[rng.pick(&UNNAMED)] = rng.byte(1, 255),
     }
     record
 }
@@ -278,51 +299,69 @@ impl Drive {
     }
 }
 
+/// Where piece i of an entry, from 0, begins.
+fn piece_at(i: usize) -> usize {
+    at_entry::PIECES + PIECE_BYTES * i
+}
+
 /// A formed entry.
-pub fn entry(rng: &mut Rng, drive: Drive, clock: &mut Clock) -> [u8; ENTRY] {
-    let mut entry = [0; ENTRY];
+pub fn entry(rng: &mut Rng, drive: Drive, clock: &mut Clock) -> [u8; ENTRY_BYTES] {
+    let mut entry = [0; ENTRY_BYTES];
     let start = rng.below(8) < drive.start;
     let abort = rng.below(8) < drive.abort;
-    entry[0] = u8::from(start) | u8::from(abort) << 1;
+    entry[at_entry::INPUTS] = u8::from(start) | u8::from(abort) << 1;
     let (abort_reply, abort_code) = reply(rng, 3, 4, 1);
-    entry[2] = abort_reply;
-    put(&mut entry, 4, &abort_code.to_le_bytes());
-    entry[3] = u8::from(rng.below(4) > 0);
-    put(&mut entry, 8, &word(rng).to_le_bytes());
-    put(&mut entry, 12, &bound(rng).to_le_bytes());
-    put(&mut entry, 16, &bound(rng).to_le_bytes());
-    put(&mut entry, 20, &clock.read(rng).to_le_bytes());
-    let pieces = rng.pick(&[0, 1, 1, 1, 2, 2, 3, 4]);
-    entry[1] = pieces as u8;
-    for piece in entry[24..].chunks_exact_mut(8).take(pieces) {
+    entry[at_entry::ABORT_REPLY] = abort_reply;
+    put(&mut entry, at_entry::ABORT_CODE, &abort_code.to_le_bytes());
+    entry[at_entry::RESET_REPLY] = u8::from(rng.below(4) > 0);
+    put(&mut entry, at_entry::JOB, &word(rng).to_le_bytes());
+    put(&mut entry, at_entry::LIMIT, &bound(rng).to_le_bytes());
+    put(&mut entry, at_entry::TIME_OUT, &bound(rng).to_le_bytes());
+    put(&mut entry, at_entry::CLOCK, &clock.read(rng).to_le_bytes());
+    let pieces = rng.pick(&[0, 1, 1, 1, 2, 2, 3, MAX_PIECES]);
+    entry[at_entry::COUNT] = pieces as u8;
+    for i in 0..pieces {
         let (reply, code) = reply(rng, drive.working, 7 - drive.working, 1);
-        piece[0] = reply;
-        put(piece, 2, &code.to_le_bytes());
-        put(piece, 4, &clock.read(rng).to_le_bytes());
+        let piece = piece_at(i);
+        entry[piece + at_piece::REPLY] = reply;
+        put(&mut entry, piece + at_piece::CODE, &code.to_le_bytes());
+        put(
+            &mut entry,
+            piece + at_piece::CLOCK,
+            &clock.read(rng).to_le_bytes(),
+        );
     }
     entry
 }
 
+/// Writes a code that the reply doesn't go with.
+fn spoil_code(rng: &mut Rng, entry: &mut [u8], reply: usize, at: usize) {
+    let wrong = match entry[reply] {
+        2 => u16::from(rng.byte(0, 1)),
+        _ => code(rng),
+    };
+    put(entry, at, &wrong.to_le_bytes());
+}
+
 /// Spoils one field of a formed entry.
 pub fn spoil_entry(rng: &mut Rng, entry: &mut [u8]) {
-    let pieces = usize::from(entry[1]);
-    // The first byte of a piece that the entry has, or of the first.
-    let piece = 24 + 8 * rng.below(pieces.max(1));
+    let pieces = usize::from(entry[at_entry::COUNT]);
+    // A piece that the entry has, or the first.
+    let piece = piece_at(rng.below(pieces.max(1)));
     match rng.below(10) {
-        0 => entry[0] |= 1 << rng.byte(2, 7),
-        1 => entry[1] = rng.byte(5, 255),
-        2 => entry[2] = rng.byte(3, 255),
-        3 => entry[3] = rng.byte(2, 255),
-        // A code that the reply doesn't go with.
-        4 if entry[2] == 2 => put(entry, 4, &[rng.byte(0, 1), 0]),
-        4 => put(entry, 4, &code(rng).to_le_bytes()),
-        5 => entry[rng.range(6, 7)] = rng.byte(1, 255),
+        0 => entry[at_entry::INPUTS] |= 1 << rng.byte(2, 7),
+        1 => entry[at_entry::COUNT] = rng.byte(5, 255),
+        2 => entry[at_entry::ABORT_REPLY] = rng.byte(3, 255),
+        3 => entry[at_entry::RESET_REPLY] = rng.byte(2, 255),
+        4 => spoil_code(rng, entry, at_entry::ABORT_REPLY, at_entry::ABORT_CODE),
+        5 => entry[rng.pick(&at_entry::UNNAMED)] = rng.byte(1, 255),
         // A piece past the last.
-        6 if pieces < 4 => entry[rng.range(24 + 8 * pieces, 55)] = rng.byte(1, 255),
-        _ if pieces == 0 => entry[0] = rng.byte(4, 255),
-        7 => entry[piece] = rng.byte(3, 255),
-        8 => entry[piece + 1] = rng.byte(1, 255),
-        _ if entry[piece] == 2 => put(entry, piece + 2, &[rng.byte(0, 1), 0]),
-        _ => put(entry, piece + 2, &code(rng).to_le_bytes()),
+        6 if pieces < MAX_PIECES => {
+            entry[rng.range(piece_at(pieces), piece_at(MAX_PIECES) - 1)] = rng.byte(1, 255);
+        }
+        _ if pieces == 0 => entry[at_entry::INPUTS] = rng.byte(4, 255),
+        7 => entry[piece + at_piece::REPLY] = rng.byte(3, 255),
+        8 => entry[piece + at_piece::UNNAMED] = rng.byte(1, 255),
+        _ => spoil_code(rng, entry, piece + at_piece::REPLY, piece + at_piece::CODE),
     }
 }

@@ -1,13 +1,9 @@
 //! Scans: the buffers of one scan, and damage to them with the refusal it must give.
 
-use crate::records::{entry, sound, spoil_entry, unsound, Clock, Drive, ENTRY, RECORD};
+use crate::records::{entry, sound, spoil_entry, unsound, Clock, Drive};
 use crate::rng::Rng;
 use crate::tables::{Fault, Table};
-use lane::Refusal;
-
-/// Bytes of a report entry, and of two events.
-const REPORT: usize = 12;
-const EVENTS: usize = 16;
+use lane::{Refusal, ENTRY_BYTES, EVENT_BYTES, RECORD_BYTES, REPORT_BYTES};
 
 /// All that one scan is given.
 #[derive(Clone, Debug, PartialEq, Eq)]
@@ -77,7 +73,7 @@ impl List {
     /// The next scan from this state, with a formed frame and buffers that hold anything.
     pub fn scan(&mut self, rng: &mut Rng, state: &[u8]) -> Buffers {
         let blocks = self.table.chain.len();
-        let mut frame = Vec::with_capacity(ENTRY * blocks);
+        let mut frame = Vec::with_capacity(ENTRY_BYTES * blocks);
         let start = self.clock.clone();
         for _ in 0..blocks {
             if self.together {
@@ -85,13 +81,13 @@ impl List {
             }
             frame.extend_from_slice(&entry(rng, self.drive, &mut self.clock));
         }
-        let spare = rng.pick(&[0, 0, 0, 1, 8, 100]);
+        let spare = rng.pick(&[0, 0, 0, 1, EVENT_BYTES, 100]);
         Buffers {
             image: self.table.image.clone(),
             state: state.to_vec(),
             frame,
-            report: noise(rng, REPORT * blocks),
-            journal: noise(rng, EVENTS * blocks + spare),
+            report: noise(rng, REPORT_BYTES * blocks),
+            journal: noise(rng, 2 * EVENT_BYTES * blocks + spare),
         }
     }
 
@@ -102,28 +98,28 @@ impl List {
         match wrong {
             Wrong::Table => self.damage_table(rng, scan),
             Wrong::StateLength => {
-                let length = other_length(rng, RECORD * blocks);
+                let length = other_length(rng, RECORD_BYTES * blocks);
                 scan.state.resize(length, 0);
                 Some(Refusal::new(20, 0))
             }
             Wrong::State => self.damage_record(rng, scan),
             Wrong::FrameLength => {
-                let length = other_length(rng, ENTRY * blocks);
+                let length = other_length(rng, ENTRY_BYTES * blocks);
                 scan.frame.resize(length, 0);
                 Some(Refusal::new(30, 0))
             }
             Wrong::Frame => {
                 let index = rng.below(blocks.max(1));
-                spoil_entry(rng, scan.frame.chunks_exact_mut(ENTRY).nth(index)?);
+                spoil_entry(rng, scan.frame.chunks_exact_mut(ENTRY_BYTES).nth(index)?);
                 Some(Refusal::new(31, index as u32 + 1))
             }
             Wrong::ReportLength => {
-                let length = other_length(rng, REPORT * blocks);
+                let length = other_length(rng, REPORT_BYTES * blocks);
                 scan.report.resize(length, 0xee);
                 Some(Refusal::new(40, 0))
             }
             Wrong::JournalLength => {
-                let least = EVENTS * blocks;
+                let least = 2 * EVENT_BYTES * blocks;
                 let any = rng.below(least.max(1));
                 let length = rng.pick(&[0, least.saturating_sub(1), any]);
                 scan.journal.truncate(length);

@@ -4,6 +4,7 @@
 use compare::scan_check::{fresh, run};
 use compare::tally::Tally;
 use compare::text::{parse_answer, parse_slice};
+use lane::RECORD_BYTES;
 
 const SCANS: &str = include_str!("../data/cases.txt");
 const READINGS: &str = include_str!("../data/scan_cases.txt");
@@ -41,7 +42,10 @@ fn scans() {
                 let bytes = parse_slice(call[2]).expect("a slice");
                 let image = parse_slice(call[1]).expect("a slice");
                 let (answer, zeros) = fresh(&image, &vec![0xaa; bytes.len()]).expect(name);
-                assert_eq!(answer.map(|blocks| 32 * blocks as usize), Ok(bytes.len()));
+                assert_eq!(
+                    answer.map(|blocks| RECORD_BYTES * blocks as usize),
+                    Ok(bytes.len())
+                );
                 assert_eq!(zeros, bytes, "{name}");
             }
         }

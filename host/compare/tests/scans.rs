@@ -211,12 +211,12 @@ fn fresh_states() {
         if rng.one_in(3) {
             length = rng.pick(&[
                 0,
-                31,
-                32,
-                33,
+                RECORD_BYTES - 1,
+                RECORD_BYTES,
+                RECORD_BYTES + 1,
                 length + 1,
                 length.saturating_sub(1),
-                length + 32,
+                length + RECORD_BYTES,
             ]);
             if length != RECORD_BYTES * blocks {
                 expected = Err(Refusal::new(20, 0));

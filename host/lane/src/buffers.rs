@@ -30,9 +30,9 @@ impl State {
     /// The record at a position; `None` above the number of blocks, and if its bytes are out of form.
     ///
     /// ```
-    /// use lane::{Position, Record, State};
+    /// use lane::{Position, Record, State, RECORD_BYTES};
     ///
-    /// let state = State::from_bytes(&[[0; 32], [7; 32]].concat());
+    /// let state = State::from_bytes(&[[0; RECORD_BYTES], [7; RECORD_BYTES]].concat());
     /// let record = |number| state.record(Position::new(number).unwrap());
     /// assert_eq!([1, 2, 3].map(record), [Some(Record::default()), None, None]);
     /// ```
@@ -61,7 +61,8 @@ impl Frame {
         &self.0
     }
 
-    /// The entry at a position; `None` above the number of blocks, and if its bytes are out of form.
+    /// The entry at a position; `None` above the number of blocks, and if its bytes are out of form. Only the
+    /// engine says whether its error codes are.
     pub fn entry(&self, position: Position) -> Option<Entry> {
         Entry::decode(part::<ENTRY_BYTES>(&self.0, position)?)
     }

@@ -1,11 +1,7 @@
 //! A table that the engine has accepted.
 
+use crate::offset::{header, slot};
 use crate::{ffi, Position, Refusal, Tag, HEADER_BYTES, SLOT_BYTES};
-
-/// Places of the head in the header, and of the next slot and the tag in a slot.
-const HEAD: usize = 2;
-const NEXT: usize = 1;
-const TAG: usize = 8;
 
 /// The engine over one accepted table, of which it keeps a copy.
 ///
@@ -71,8 +67,8 @@ impl Engine {
     /// The tag of the block at a position, `None` above the number of blocks.
     pub fn tag(&self, position: Position) -> Option<Tag> {
         let on_chain = position.number() <= self.blocks;
-        let slot = on_chain.then(|| self.slot(position))?;
-        Tag::from_bytes(*slot[TAG..].first_chunk()?)
+        let bytes = on_chain.then(|| self.slot(position))?;
+        Tag::from_bytes(*bytes[slot::TAG..].first_chunk()?)
     }
 
     /// The slot of the block with this tag, as a part of the image.
@@ -99,10 +95,10 @@ impl Engine {
     /// The slot of the block at a position of the chain, by its links.
     fn slot(&self, position: Position) -> &[u8; SLOT_BYTES] {
         let (slots, _) = self.image[HEADER_BYTES..].as_chunks();
-        let slot = |number: u8| &slots[usize::from(number) - 1];
-        let mut found: &[u8; SLOT_BYTES] = slot(self.image[HEAD]);
+        let numbered = |number: u8| &slots[usize::from(number) - 1];
+        let mut found: &[u8; SLOT_BYTES] = numbered(self.image[header::HEAD]);
         for _ in 0..position.index() {
-            found = slot(found[NEXT]);
+            found = numbered(found[slot::NEXT]);
         }
         found
     }

@@ -1,5 +1,6 @@
 //! State record, frame entry, report entry and journal event as values, and as bytes.
 
+use crate::offset::{entry, event, piece, record, report};
 use crate::Position;
 
 /// Bytes of a state record, one a block.
@@ -19,9 +20,6 @@ pub const MAX_PIECES: usize = 4;
 
 /// Bytes of a piece of a frame entry.
 pub const PIECE_BYTES: usize = 8;
-
-/// The place of the first piece in its entry.
-const FIRST_PIECE: usize = 24;
 
 /// The error code of a job that was not over within its time-out; other codes are those of the replies.
 pub const CODE_TIME_OUT: u16 = 1;
@@ -120,12 +118,12 @@ impl Flags {
 /// The state of one block between scans.
 ///
 /// ```
-/// use lane::{Record, Step};
+/// use lane::{Record, Step, RECORD_BYTES};
 ///
 /// let fresh = Record::default();
 /// assert_eq!(fresh.step, Step::Dormant);
-/// assert_eq!(fresh.encode(), [0; 32]);
-/// assert_eq!(Record::decode(&[7; 32]), None);
+/// assert_eq!(fresh.encode(), [0; RECORD_BYTES]);
+/// assert_eq!(Record::decode(&[7; RECORD_BYTES]), None);
 /// ```
 #[derive(Clone, Copy, Debug, Default, PartialEq, Eq, Hash)]
 pub struct Record {
@@ -155,15 +153,15 @@ impl Record {
     /// Only the engine says whether it is sound.
     pub fn decode(from: &[u8; RECORD_BYTES]) -> Option<Record> {
         let record = Record {
-            step: *Step::ALL.get(usize::from(from[0]))?,
-            flags: Flags::decode(from[1])?,
-            reset_request: from[2] == 1,
-            job: u32_at(from, 4),
-            code: u16_at(from, 8),
-            time_limit: u32_at(from, 12),
-            time_out: u32_at(from, 16),
-            last_reading: u32_at(from, 20),
-            elapsed: u64::from_le_bytes(bytes(from, 24)),
+            step: *Step::ALL.get(usize::from(from[record::STEP]))?,
+            flags: Flags::decode(from[record::FLAGS])?,
+            reset_request: from[record::RESET_REQUEST] == 1,
+            job: u32_at(from, record::JOB),
+            code: u16_at(from, record::CODE),
+            time_limit: u32_at(from, record::TIME_LIMIT),
+            time_out: u32_at(from, record::TIME_OUT),
+            last_reading: u32_at(from, record::LAST_READING),
+            elapsed: u64::from_le_bytes(bytes(from, record::ELAPSED)),
         };
         (record.encode() == *from).then_some(record)
     }
@@ -171,14 +169,19 @@ impl Record {
     /// The bytes of the record.
     pub fn encode(&self) -> [u8; RECORD_BYTES] {
         let mut to = [0; RECORD_BYTES];
-        put(&mut to, 0, &[self.step.number(), self.flags.encode()]);
-        put(&mut to, 2, &[u8::from(self.reset_request)]);
-        put(&mut to, 4, &self.job.to_le_bytes());
-        put(&mut to, 8, &self.code.to_le_bytes());
-        put(&mut to, 12, &self.time_limit.to_le_bytes());
-        put(&mut to, 16, &self.time_out.to_le_bytes());
-        put(&mut to, 20, &self.last_reading.to_le_bytes());
-        put(&mut to, 24, &self.elapsed.to_le_bytes());
+        to[record::STEP] = self.step.number();
+        to[record::FLAGS] = self.flags.encode();
+        to[record::RESET_REQUEST] = u8::from(self.reset_request);
+        put(&mut to, record::JOB, &self.job.to_le_bytes());
+        put(&mut to, record::CODE, &self.code.to_le_bytes());
+        put(&mut to, record::TIME_LIMIT, &self.time_limit.to_le_bytes());
+        put(&mut to, record::TIME_OUT, &self.time_out.to_le_bytes());
+        put(
+            &mut to,
+            record::LAST_READING,
+            &self.last_reading.to_le_bytes(),
+        );
+        put(&mut to, record::ELAPSED, &self.elapsed.to_le_bytes());
         to
     }
 }
@@ -237,15 +240,15 @@ impl Piece {
     }
 
     fn decode(from: &[u8]) -> Option<Piece> {
-        let reply = Reply::decode(from[0], u16_at(from, 2))?;
-        (from[1] == 0).then_some(Piece::new(reply, u32_at(from, 4)))
+        let reply = Reply::decode(from[piece::REPLY], u16_at(from, piece::CODE))?;
+        (from[piece::UNNAMED] == 0).then_some(Piece::new(reply, u32_at(from, piece::CLOCK)))
     }
 
     fn encode(self) -> [u8; PIECE_BYTES] {
         let mut to = [0; PIECE_BYTES];
-        to[0] = self.reply.number();
-        put(&mut to, 2, &self.reply.code().to_le_bytes());
-        put(&mut to, 4, &self.clock.to_le_bytes());
+        to[piece::REPLY] = self.reply.number();
+        put(&mut to, piece::CODE, &self.reply.code().to_le_bytes());
+        put(&mut to, piece::CLOCK, &self.clock.to_le_bytes());
         to
     }
 }
@@ -276,11 +279,9 @@ impl Pieces {
 }
 
 impl<const N: usize> From<[Piece; N]> for Pieces {
-    /// These pieces, in order.
-    ///
-    /// # Panics
-    /// With more than four.
+    /// These pieces, in order; more than four do not compile.
     fn from(pieces: [Piece; N]) -> Pieces {
+        const { assert!(N <= MAX_PIECES) };
         Pieces::new(&pieces)
     }
 }
@@ -328,40 +329,48 @@ impl Entry {
     /// Only the engine says whether its error codes are.
     pub fn decode(from: &[u8; ENTRY_BYTES]) -> Option<Entry> {
         let mut pieces = Pieces {
-            count: usize::from(from[1]),
+            count: usize::from(from[entry::COUNT]),
             ..Pieces::default()
         };
         for (index, piece) in pieces.list.get_mut(..pieces.count)?.iter_mut().enumerate() {
-            *piece = Piece::decode(&from[FIRST_PIECE + PIECE_BYTES * index..])?;
+            *piece = Piece::decode(&from[entry::PIECES + PIECE_BYTES * index..])?;
         }
-        let entry = Entry {
-            start: from[0] & 1 != 0,
-            abort: from[0] & 2 != 0,
-            abort_reply: Reply::decode(from[2], u16_at(from, 4))?,
-            reset_complete: from[3] == 1,
-            job: u32_at(from, 8),
-            time_limit: u32_at(from, 12),
-            time_out: u32_at(from, 16),
-            clock: u32_at(from, 20),
+        let got = Entry {
+            start: from[entry::INPUTS] & 1 != 0,
+            abort: from[entry::INPUTS] & 2 != 0,
+            abort_reply: Reply::decode(from[entry::ABORT_REPLY], u16_at(from, entry::ABORT_CODE))?,
+            reset_complete: from[entry::RESET_REPLY] == 1,
+            job: u32_at(from, entry::JOB),
+            time_limit: u32_at(from, entry::TIME_LIMIT),
+            time_out: u32_at(from, entry::TIME_OUT),
+            clock: u32_at(from, entry::CLOCK),
             pieces,
         };
-        (entry.encode() == *from).then_some(entry)
+        (got.encode() == *from).then_some(got)
     }
 
     /// The bytes of the entry.
     pub fn encode(&self) -> [u8; ENTRY_BYTES] {
         let mut to = [0; ENTRY_BYTES];
-        to[0] = u8::from(self.start) | u8::from(self.abort) << 1;
-        to[1] = self.pieces.count as u8;
-        to[2] = self.abort_reply.number();
-        to[3] = u8::from(self.reset_complete);
-        put(&mut to, 4, &self.abort_reply.code().to_le_bytes());
-        put(&mut to, 8, &self.job.to_le_bytes());
-        put(&mut to, 12, &self.time_limit.to_le_bytes());
-        put(&mut to, 16, &self.time_out.to_le_bytes());
-        put(&mut to, 20, &self.clock.to_le_bytes());
+        to[entry::INPUTS] = u8::from(self.start) | u8::from(self.abort) << 1;
+        to[entry::COUNT] = self.pieces.count as u8;
+        to[entry::ABORT_REPLY] = self.abort_reply.number();
+        to[entry::RESET_REPLY] = u8::from(self.reset_complete);
+        put(
+            &mut to,
+            entry::ABORT_CODE,
+            &self.abort_reply.code().to_le_bytes(),
+        );
+        put(&mut to, entry::JOB, &self.job.to_le_bytes());
+        put(&mut to, entry::TIME_LIMIT, &self.time_limit.to_le_bytes());
+        put(&mut to, entry::TIME_OUT, &self.time_out.to_le_bytes());
+        put(&mut to, entry::CLOCK, &self.clock.to_le_bytes());
         for (index, piece) in self.pieces.as_slice().iter().enumerate() {
-            put(&mut to, FIRST_PIECE + PIECE_BYTES * index, &piece.encode());
+            put(
+                &mut to,
+                entry::PIECES + PIECE_BYTES * index,
+                &piece.encode(),
+            );
         }
         to
     }
@@ -388,12 +397,12 @@ impl ReportEntry {
     /// The report entry in these bytes, `None` if they are out of form.
     pub fn decode(from: &[u8; REPORT_BYTES]) -> Option<ReportEntry> {
         let entry = ReportEntry {
-            flags: Flags::decode(from[0])?,
-            pieces_used: from[1],
-            passes: from[2],
-            step: *Step::ALL.get(usize::from(from[3]))?,
-            code: u16_at(from, 4),
-            job: u32_at(from, 8),
+            flags: Flags::decode(from[report::FLAGS])?,
+            pieces_used: from[report::PIECES],
+            passes: from[report::PASSES],
+            step: *Step::ALL.get(usize::from(from[report::STEP]))?,
+            code: u16_at(from, report::CODE),
+            job: u32_at(from, report::JOB),
         };
         (entry.encode() == *from).then_some(entry)
     }
@@ -401,10 +410,12 @@ impl ReportEntry {
     /// The bytes of the report entry.
     pub fn encode(&self) -> [u8; REPORT_BYTES] {
         let mut to = [0; REPORT_BYTES];
-        put(&mut to, 0, &[self.flags.encode(), self.pieces_used]);
-        put(&mut to, 2, &[self.passes, self.step.number()]);
-        put(&mut to, 4, &self.code.to_le_bytes());
-        put(&mut to, 8, &self.job.to_le_bytes());
+        to[report::FLAGS] = self.flags.encode();
+        to[report::PIECES] = self.pieces_used;
+        to[report::PASSES] = self.passes;
+        to[report::STEP] = self.step.number();
+        put(&mut to, report::CODE, &self.code.to_le_bytes());
+        put(&mut to, report::JOB, &self.job.to_le_bytes());
         to
     }
 }
@@ -457,21 +468,22 @@ pub struct Event {
 impl Event {
     /// The event in these bytes, `None` if there is no such kind or position.
     pub fn decode(from: &[u8; EVENT_BYTES]) -> Option<Event> {
-        let kind = usize::from(from[0]).checked_sub(1)?;
+        let kind = usize::from(from[event::KIND]).checked_sub(1)?;
         Some(Event {
             kind: *EventKind::ALL.get(kind)?,
-            position: Position::new(usize::from(from[1]))?,
-            code: u16_at(from, 2),
-            job: u32_at(from, 4),
+            position: Position::new(usize::from(from[event::POSITION]))?,
+            code: u16_at(from, event::CODE),
+            job: u32_at(from, event::JOB),
         })
     }
 
     /// The bytes of the event.
     pub fn encode(&self) -> [u8; EVENT_BYTES] {
         let mut to = [0; EVENT_BYTES];
-        put(&mut to, 0, &[self.kind.number(), self.position.byte()]);
-        put(&mut to, 2, &self.code.to_le_bytes());
-        put(&mut to, 4, &self.job.to_le_bytes());
+        to[event::KIND] = self.kind.number();
+        to[event::POSITION] = self.position.byte();
+        put(&mut to, event::CODE, &self.code.to_le_bytes());
+        put(&mut to, event::JOB, &self.job.to_le_bytes());
         to
     }
 }

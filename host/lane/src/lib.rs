@@ -39,6 +39,7 @@ mod engine;
 #[allow(unsafe_code)]
 pub mod ffi;
 mod layout;
+mod offset;
 mod position;
 mod refusal;
 mod scan;

@@ -1,5 +1,6 @@
 //! Blocks, and the table image that holds them.
 
+use crate::offset::slot;
 use std::error::Error;
 use std::fmt;
 use std::str::FromStr;
@@ -236,19 +237,14 @@ impl Block {
 
     /// The sixteen bytes of the block's slot.
     fn encode(&self, next: u8) -> [u8; SLOT_BYTES] {
-        let [start, start_code] = self.start.map_or([0, 0], Wire::encode);
-        let [abort, abort_code] = self.abort.map_or([0, 0], Wire::encode);
-        let mut slot = [0; SLOT_BYTES];
-        slot[..6].copy_from_slice(&[
-            self.kind.number(),
-            next,
-            start,
-            start_code,
-            abort,
-            abort_code,
-        ]);
-        slot[8..].copy_from_slice(self.tag.as_bytes());
-        slot
+        let mut to = [0; SLOT_BYTES];
+        let mut put = |at: usize, bytes: &[u8]| to[at..at + bytes.len()].copy_from_slice(bytes);
+        put(slot::KIND, &[self.kind.number()]);
+        put(slot::NEXT, &[next]);
+        put(slot::START_WIRE, &self.start.map_or([0, 0], Wire::encode));
+        put(slot::ABORT_WIRE, &self.abort.map_or([0, 0], Wire::encode));
+        put(slot::TAG, self.tag.as_bytes());
+        to
     }
 }
 

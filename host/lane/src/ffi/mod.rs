@@ -1,6 +1,7 @@
 //! The entry points over plain bytes. Only this module has `unsafe` code.
 //!
-//! Every function takes slices of any length and content, and answers a value or a refusal.
+//! Every function here takes slices of any length and content, and answers a value or a refusal. [`raw`] has the
+//! archive's functions as C declares them, over pointers and with packed answers.
 
 pub mod raw;
 mod scan;
