@@ -192,7 +192,8 @@ static void print_legend(void)
 {
     printf("\nS, A: the start and the abort input as the call read it, from the frame or\n"
            "  from a wire; - the block has no abort input.\n"
-           "reply: what its devices answered; aborting and aborted: to an abort; - nothing.\n"
+           "reply: what its devices answered; aborting and aborted: to an abort or,\n"
+           "  for GATE, to the withdrawal of its job; - nothing.\n"
            "BDEA: the flags busy, done, error, aborted.\n"
            "pass: passes of the call, the stopping one included; used: replies taken.\n"
            "elapsed/time-out: microseconds from the job's start to its last clock reading\n"
@@ -237,8 +238,9 @@ static void print_causes(const struct box *box, uint32_t position, const struct 
     const char *reply = entry->pieces != 0 ? reply_names[entry->reply] : "-";
     if (entry->aborts)
         reply = entry->abort_reply == COMPLETE ? "aborted" : "aborting";
-    printf("%-5.5s  %d %c  %-8s  ", (const char *)slot.tag, start,
-           has_abort(slot.kind) ? '0' + abort : '-', reply);
+    char name[LANE_TAG_BYTES + 1];
+    lane_get_tag(name, slot.tag);
+    printf("%-5s  %d %c  %-8s  ", name, start, has_abort(slot.kind) ? '0' + abort : '-', reply);
 }
 
 /* What the call of a block left. */
@@ -248,10 +250,10 @@ static void print_effects(const struct box *box, uint32_t position)
     struct lane_record record = lane_get_record(box->state, position);
     char time[32] = "-";
     if (record.time_out != 0)
-        snprintf(time, sizeof time, "%lu/%lu", (unsigned long)record.elapsed,
+        snprintf(time, sizeof time, "%llu/%lu", (unsigned long long)record.elapsed,
                  (unsigned long)record.time_out);
     else if (record.step != LANE_STEP_DORMANT)
-        snprintf(time, sizeof time, "%lu/-", (unsigned long)record.elapsed);
+        snprintf(time, sizeof time, "%llu/-", (unsigned long long)record.elapsed);
     printf("%-9s  %c%c%c%c  %4u  %4u  %16s  %4u %5lu\n", step_names[lane.step],
            lane.flags & LANE_FLAG_BUSY ? 'B' : '.', lane.flags & LANE_FLAG_DONE ? 'D' : '.',
            lane.flags & LANE_FLAG_ERROR ? 'E' : '.', lane.flags & LANE_FLAG_ABORTED ? 'A' : '.',

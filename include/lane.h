@@ -251,14 +251,15 @@ uint64_t lane_scan(const uint8_t *image, size_t image_len, uint8_t *state, size_
 
 /* The position, from 1, of the block with this tag in the table's chain. Refusals 1 to 11, 50, 51.
  * Only reads. The engine's fifth entry point, show, hands back a part of the table and so is not exported:
- * lane_get_slot(image, lane_slot_at(image, position)) is what it shows. */
+ * lane_get_slot(image, lane_slot_at(image, position)) is what it shows, with the position that an accepted
+ * lane_find answered. */
 uint64_t lane_find(const uint8_t *image, size_t image_len, const uint8_t *tag, size_t tag_len);
 
 /* Whether the call was accepted: 1 or 0. */
 static inline int lane_is_accepted(uint64_t answer) { return answer >> 32 == 0; }
 
-/* The value of an accepted call. */
-static inline uint32_t lane_value(uint64_t answer) { return (uint32_t)answer; }
+/* The value of an accepted call, 0 if it was refused. */
+static inline uint32_t lane_value(uint64_t answer) { return lane_is_accepted(answer) ? (uint32_t)answer : 0; }
 
 /* The number of the check that refused the call, 0 if it was accepted. */
 static inline uint32_t lane_refusal_number(uint64_t answer) { return (uint32_t)(answer >> 32); }
@@ -439,7 +440,16 @@ static inline int lane_put_tag(uint8_t *tag, const char *name)
     return 1;
 }
 
-/* The offset of a slot in a table. */
+/* Writes the name of a tag, without its spaces, and a zero byte after it: at most LANE_TAG_BYTES + 1 bytes. */
+static inline void lane_get_tag(char *name, const uint8_t *tag)
+{
+    size_t length = 0;
+    for (; length < LANE_TAG_BYTES && tag[length] != ' '; length++)
+        name[length] = (char)tag[length];
+    name[length] = 0;
+}
+
+/* The offset of a slot, from 1, in a table. */
 static inline size_t lane_slot_offset(uint32_t slot)
 {
     return LANE_HEADER_BYTES + (size_t)LANE_SLOT_BYTES * (slot - 1);
@@ -466,10 +476,15 @@ static inline void lane_put_header(uint8_t *image, uint8_t slots, uint8_t head)
     image[LANE_AT_HEADER_HEAD] = head;
 }
 
+/* Reads a slot; of slot 0, which is none, nothing is read and all is zero. */
 static inline struct lane_slot lane_get_slot(const uint8_t *image, uint32_t slot)
 {
-    const uint8_t *from = image + lane_slot_offset(slot);
+    const uint8_t *from = image;
     struct lane_slot got;
+    memset(&got, 0, sizeof got);
+    if (slot == 0)
+        return got;
+    from += lane_slot_offset(slot);
     got.kind = from[LANE_AT_SLOT_KIND];
     got.next = from[LANE_AT_SLOT_NEXT];
     got.start_wire = from[LANE_AT_SLOT_START_WIRE];

@@ -76,6 +76,8 @@ static void show_tag(const char *rest)
     static char name[LONGEST];
     snprintf(name, sizeof name, "%.*s", (int)strcspn(rest, "\n"), rest);
     printf("%d ", lane_put_tag(to + LANE_TAG_BYTES, name));
+    lane_get_tag(name, to + LANE_TAG_BYTES);
+    printf("[%s] ", name);
     print_put(LANE_TAG_BYTES, LANE_TAG_BYTES);
 }
 

@@ -11,7 +11,7 @@ mod parts;
 use compare::rng::{settings, Rng};
 use compare::tables::{Size, Table};
 use compare::text::slice;
-use lane::{Place, Refusal, Tag};
+use lane::{Place, Refusal, Tag, TAG_BYTES};
 use std::collections::BTreeMap;
 use std::env;
 use std::fs::{self, File};
@@ -41,16 +41,29 @@ fn compile(name: &str, archive: Option<PathBuf>) -> PathBuf {
     program
 }
 
-/// The names that the header defines: macros with a value, and constants of enums.
+/// The name that a line of the header defines: a macro with a value, or a constant of an enum. Each has a line of
+/// its own and a plain number, so that none is passed over.
+fn name(line: &'static str) -> Option<&'static str> {
+    let line = line.trim_start();
+    let line = line.strip_prefix("#define ").unwrap_or(line);
+    if !line.starts_with("LANE_") || line == "LANE_H" {
+        assert!(!line.starts_with("enum ") || !line.contains('='), "{line}");
+        return None;
+    }
+    let code = line.split("/*").next().expect("a first part").trim_end();
+    let (name, value) = code.split_once(' ').expect("NAME VALUE");
+    let value = value.trim_start_matches("= ").trim_end_matches(',');
+    let plain = value.bytes().all(|byte| byte.is_ascii_alphanumeric());
+    assert!(
+        plain && value.starts_with(|first: char| first.is_ascii_digit()),
+        "{line}"
+    );
+    Some(name)
+}
+
+/// The names that the header defines.
 fn names() -> Vec<&'static str> {
-    let defined = |line: &'static str| {
-        let line = line.trim_start();
-        let line = line.strip_prefix("#define ").unwrap_or(line);
-        let (name, rest) = line.split_once(' ')?;
-        let value = rest.trim_start_matches("= ").chars().next()?;
-        (name.starts_with("LANE_") && value.is_ascii_digit()).then_some(name)
-    };
-    HEADER.lines().filter_map(defined).collect()
+    HEADER.lines().filter_map(name).collect()
 }
 
 /// The program that shows what the header says.
@@ -107,7 +120,7 @@ fn answers() {
             };
             let expected = match number {
                 0 => format!("1 {place} 0 0 [] the call was accepted"),
-                _ => format!("0 {place} {number} {place} [{kind}] {}", refusal.reason()),
+                _ => format!("0 0 {number} {place} [{kind}] {}", refusal.reason()),
             };
             cases.push((format!("answer {number} {place}"), expected));
         }
@@ -139,7 +152,7 @@ fn slots_of_positions() {
     expect("slots", cases.collect());
 }
 
-/// The tag of a name is the binding's, and none where the name is too long.
+/// The tag of a name is the binding's, and none where the name is too long; its name is the same again.
 #[test]
 fn tags_of_names() {
     let names = [
@@ -152,11 +165,14 @@ fn tags_of_names() {
         "ABCDEFGHIJKLMNOP",
     ];
     let cases = names.map(|name| {
-        let bytes = name.parse().map_or([b' '; 8], |tag: Tag| *tag.as_bytes());
-        let fits = u8::from(name.len() <= 8);
+        let bytes = name
+            .parse()
+            .map_or([b' '; TAG_BYTES], |tag: Tag| *tag.as_bytes());
+        let fits = name.len() <= TAG_BYTES;
+        let back = if fits { name } else { "" };
         (
             format!("tag {name}"),
-            format!("{fits} {}", &slice(&bytes)[1..]),
+            format!("{} [{back}] {}", u8::from(fits), &slice(&bytes)[1..]),
         )
     });
     expect("tags", cases.into());
