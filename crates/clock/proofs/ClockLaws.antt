@@ -25,6 +25,11 @@ pub tick-held : (t : Timer) (reading : ℕ) → tick t reading .elapsed ≤ most
 unfolding tick
 tick-held t reading = omega arith
 
+-- what holds of the last reading and of the new one holds of the last reading after it
+pub tick-last : (P : ℕ → Type 0) (t : Timer) (reading : ℕ) → P (t .last) → P reading → P (tick t reading .last)
+unfolding tick
+tick-last P t reading stays moves = moves
+
 -- the call clock, read again in the call of the start, adds nothing
 pub tick-start : (reading : ℕ) → reading < clockModulus → tick (start reading) reading ≡ start reading
 unfolding tick

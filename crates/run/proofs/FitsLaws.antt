@@ -10,7 +10,7 @@ use lib.ListN.{take}
 use Rattle.kind.specs.Kind.{isEdge, hasTimeLimit, hasTimeOut, isContinuous}
 use Rattle.clock.specs.Clock.{mostElapsed, tick, pastTimeOut}
 use Rattle.clock.specs.declared.Timer.{Timer}
-use Rattle.clock.proofs.ClockLaws.{tick-held}
+use Rattle.clock.proofs.ClockLaws.{tick-held, tick-last}
 use Rattle.layout.proofs.Fits.{All, nil, cons, RecordFits, PieceFits, EntryFits, EventFits}
 use Rattle.block.specs.Record.{Dormant, Executing, Done, Error, Aborting, Aborted, Resetting, TimedOut, freshRecord, atStep, failedWith}
 use Rattle.block.specs.Event.{Start, DoneEvent, Failed, AbortedEvent, Withdrawn, emitted, noEvent, eventOf}
@@ -87,9 +87,10 @@ module _ (r : Record) (h : RecordFits r) where
   event-fits : (n : ℕ) → EventFits (eventOf n r)
   event-fits n = record { code = zero-or (r .code) 2 (h .code) (eqb n Failed); job = h .job }
 
-tick-fits : (t : Timer) (reading : ℕ) → reading < 256 ^ 4 → TimerFits (tick t reading)
-unfolding tick
-tick-fits t reading h = record { last = h; elapsed = let l = tick-held t reading in let m : mostElapsed < 256 ^ 8 = lit< tt in lt-of-le-of-lt l m }
+tick-fits : (t : Timer) (reading : ℕ) → t .last < 256 ^ 4 → reading < 256 ^ 4 → TimerFits (tick t reading)
+tick-fits t reading l h =
+    let m : mostElapsed < 256 ^ 8 = lit< tt in
+    record { last = tick-last (λ n. n < 256 ^ 4) t reading l h; elapsed = lt-of-le-of-lt (tick-held t reading) m }
 
 pub fresh-fits : RecordFits freshRecord
 fresh-fits = record { step = lit< tt; job = lit< tt; code = lit< tt; limit = lit< tt; timeout = lit< tt; last = lit< tt; elapsed = lit< tt }
@@ -107,19 +108,20 @@ emitted-fits : (v : Event) → EventFits v → All EventFits (emitted v)
 emitted-fits v h = either (All EventFits) (eqb (v .kind) 0) nil (cons h nil)
 
 module _ (k : ℕ) (i : Inputs) (e : Entry) (fe : EntryFits e) where
-  piece-fits : (w : Work) (p : Piece) → PieceFits p → WorkFits (usePiece w p)
-  piece-fits w p h = record { timer = tick-fits (w .timer) (p .clock) (h .clock); code = h .code }
+  piece-fits : (w : Work) (p : Piece) → WorkFits w → PieceFits p → WorkFits (usePiece w p)
+  piece-fits w p g h = record { timer = tick-fits (w .timer) (p .clock) (g .timer .last) (h .clock); code = h .code }
 
   pieces-fit : (several : Bool) (b : Bounds) (w : Work) {ps : List Piece} → WorkFits w → All PieceFits ps → WorkFits (usePieces several b w ps)
   unfolding usePieces
   pieces-fit several b w h nil = h
   pieces-fit several b w h (cons {x = p} g x) =
-      either WorkFits (endsPieces several b (usePiece w p) p) (piece-fits w p g) (pieces-fit several b (usePiece w p) (piece-fits w p g) x)
+      let f = piece-fits w p h g in
+      either WorkFits (endsPieces several b (usePiece w p) p) f (pieces-fit several b (usePiece w p) f x)
 
-  worked-fits : (r : Record) → WorkFits (worked k e r)
-  worked-fits r =
+  worked-fits : (r : Record) → RecordFits r → WorkFits (worked k e r)
+  worked-fits r h =
       pieces-fit (hasTimeLimit k) (boundsOf k e r) (atCall e r)
-      (record { timer = tick-fits (r .timer) (e .clock) (fe .clock); code = lit< tt })
+      (record { timer = tick-fits (r .timer) (e .clock) (h .last) (fe .clock); code = lit< tt })
       (all-take (e .count) (fe .pieces))
 
   started-fits : (r : Record) → RecordFits r → RecordFits (started k e r)
@@ -154,7 +156,7 @@ module _ (k : ℕ) (i : Inputs) (e : Entry) (fe : EntryFits e) where
   unfolding executing
   executing-fits r h =
       either PassFits (calledOff k i) (goes-on 0 (atStep Aborting r) (at-fits r h Aborting (lit< tt)))
-      (judge-fits (isContinuous k) (timeOutOf k e r) (worked k e r) r (worked-fits r) h)
+      (judge-fits (isContinuous k) (timeOutOf k e r) (worked k e r) r (worked-fits r h) h)
 
   finish-fits : (r : Record) → RecordFits r → EventFits (finishEvent r)
   finish-fits r h =
