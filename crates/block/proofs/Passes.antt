@@ -10,7 +10,8 @@ use lib.Dec.{eqb, leb}
 use lib.ListN.{length, take}
 use borrow.Author.Tests.{not-true, leb-true, ne-eqb}
 use Rattle.kind.specs.Kind.{isEdge, hasAbort, hasTimeLimit, hasTimeOut, isContinuous}
-use Rattle.clock.specs.Clock.{mostElapsed, start, tick, past, pastTimeOut}
+use Rattle.clock.specs.Clock.{mostElapsed, start, tick, pastTimeOut}
+use Rattle.clock.proofs.ClockLaws.{time-out-none}
 use Rattle.clock.specs.declared.Timer.{Timer}
 use Rattle.block.specs.Record.{Dormant, Executing, Done, Error, Aborting, Aborted, Resetting, TimedOut, freshRecord}
 use Rattle.block.specs.Event.{emitted}
@@ -110,8 +111,7 @@ code-two : (k c : ℕ) → leb leastErrorCode c ≡ true → errorCode k c ≡ t
 code-two k c h = rw (ne-eqb c 0 (λ q. omega (arith, leb-true leastErrorCode c h)), ne-eqb c TimedOut (λ q. omega (arith, leb-true leastErrorCode c h)))
 
 has-time-out : (k : ℕ) (e : Entry) (r : Record) (t : Timer) → pastTimeOut (timeOutOf k e r) t ≡ true → hasTimeOut k ≡ true
-unfolding pastTimeOut past
-has-time-out k e r t h = by-test (hasTimeOut k) (λ g. g) (λ g. no-case (rw g at h))
+has-time-out k e r t h = by-test (hasTimeOut k) (λ g. g) (λ g. no-case (sym (time-out-none t) ∙ (rw g at h)))
 
 called-aborts : (k : ℕ) (i : Inputs) → calledOff k i ≡ true → isEdge k ≡ true → hasAbort k ≡ true
 called-aborts k i h g = and-left (hasAbort k) (i .abort) (rw g at h)

@@ -7,9 +7,8 @@ use mathlib.Core.Bool.{true, false, cond}
 use mathlib.Core.Logic.{_≢_}
 use mathlib.Core.Path.{_≡_, _∙_, sym}
 use lib.ListN.{take}
-use borrow.Author.Tests.{ne-eqb, ltb-false}
-use Rattle.clock.specs.Clock.{clockModulus, start, tick, past, pastTimeOut}
-use Rattle.clock.proofs.ClockLaws.{tick-start}
+use Rattle.clock.specs.Clock.{clockModulus, start, tick}
+use Rattle.clock.proofs.ClockLaws.{tick-start, in-time}
 use Rattle.block.specs.Record.{Executing}
 use Rattle.block.specs.Entry.{entryFits}
 use Rattle.block.specs.Dormant.{timeOutTaken}
@@ -35,10 +34,6 @@ pub record Timing (k : ℕ) (e : Entry) (r : Record) (o : Outcome) : Type 0 wher
   pub timer : o .next .timer ≡ tickAll (cond (hasStart (o .events)) (start (e .clock)) (tick (r .timer) (e .clock))) (take (o .used) (clocksOf (e .pieces)))
   pub timeout : o .next .timeout ≡ cond (hasStart (o .events)) (timeOutTaken k e) (r .timeout)
   pub inTime : timeOutOf k e (o .next) ≢ 0 → o .next .timer .elapsed ≤ timeOutOf k e (o .next)
-
-not-past : (bound time : ℕ) → past bound time ≡ false → bound ≢ 0 → time ≤ bound
-unfolding past
-not-past bound time h n = ltb-false bound time (rw (ne-eqb bound 0 n) at h)
 
 rank-executing : (r : Record) → r .step ≡ Executing → rank r ≡ 3
 unfolding rank
@@ -71,10 +66,9 @@ module _ (k : ℕ) (i : Inputs) (e : Entry) (fits : e .clock < clockModulus) whe
       (λ h. let z : ⊥ = omega (arith, rank-executing (p .next) (y .came h)) in absurd z)
 
   timing : {r : Record} {o : Outcome} → Shape k (entryFits e ≡ true) r → Call k i e r o → o .next .step ≡ Executing → Timing k e r o
-  unfolding pastTimeOut
   timing s (stops r h) x =
       let p = passed k i e s .halts h x in
-      record { came = λ _. p .came; timer = rw (p .quiet) (p .timer); timeout = rw (p .quiet) (p .timeout); inTime = not-past _ _ (p .inTime) }
+      record { came = λ _. p .came; timer = rw (p .quiet) (p .timer); timeout = rw (p .quiet) (p .timeout); inTime = in-time _ _ (p .inTime) }
   timing s (goes r o h c) x =
       let p = passed k i e s in
       joined r (pass k i e r) o (p .goes h) (events (p .after) c) (timing (p .after) c x)

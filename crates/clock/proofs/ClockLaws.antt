@@ -1,10 +1,12 @@
--- What the counted time means, before and after the counter wraps, as specs/Clock.antt states it, and the laws of `tick` that the block
--- machine and its history use.
+-- What the counted time means, before and after the counter wraps, as specs/Clock.antt states it, and the laws of time that the block machine, its
+-- history and the list of scans use.
 use Prim.Native.Nat.{ℕ, _<_, _≤_}
 use mathlib.Core.Bool.{false}
+use mathlib.Core.Logic.{_≢_}
 use mathlib.Core.Path.{_≡_, refl}
 use native.Mathlib.Omega.{arith}
-use Rattle.clock.specs.Clock.{clockModulus, mostElapsed, since, SinceBefore, SinceAfter, start, tick, past}
+use borrow.Author.Tests.{ltb-false, ne-eqb}
+use Rattle.clock.specs.Clock.{clockModulus, mostElapsed, since, SinceBefore, SinceAfter, start, tick, past, pastTimeOut}
 use Rattle.clock.specs.declared.Timer.{Timer}
 
 pub since-before : SinceBefore
@@ -35,7 +37,16 @@ pub tick-start : (reading : ℕ) → reading < clockModulus → tick (start read
 unfolding tick
 tick-start reading h = rw (since-same reading h)
 
--- 0 is no bound
+-- 0 is no bound, and no time-out
 pub past-none : (time : ℕ) → past 0 time ≡ false
 unfolding past
 past-none time = refl
+
+pub time-out-none : (t : Timer) → pastTimeOut 0 t ≡ false
+unfolding pastTimeOut
+time-out-none t = past-none (t .elapsed)
+
+-- not past a time-out
+pub in-time : (timeout : ℕ) (t : Timer) → pastTimeOut timeout t ≡ false → timeout ≢ 0 → t .elapsed ≤ timeout
+unfolding pastTimeOut past
+in-time timeout t h n = ltb-false timeout (t .elapsed) (rw (ne-eqb timeout 0 n) at h)
