@@ -495,9 +495,13 @@ static inline struct lane_slot lane_get_slot(const uint8_t *image, uint32_t slot
     return got;
 }
 
+/* Writes a slot; to slot 0, which is none, nothing. */
 static inline void lane_put_slot(uint8_t *image, uint32_t slot, const struct lane_slot *put)
 {
-    uint8_t *to = image + lane_slot_offset(slot);
+    uint8_t *to = image;
+    if (slot == 0)
+        return;
+    to += lane_slot_offset(slot);
     memset(to, 0, LANE_SLOT_BYTES);
     to[LANE_AT_SLOT_KIND] = put->kind;
     to[LANE_AT_SLOT_NEXT] = put->next;

@@ -88,6 +88,9 @@ static void show_slot(const char *hex)
     printf("%d %d %d %d %d %d %.8s ", slot.kind, slot.next, slot.start_wire, slot.start_code,
            slot.abort_wire, slot.abort_code, (const char *)slot.tag);
     lane_put_slot(to, 2, &slot);
+    lane_put_slot(to, 0, &slot);
+    if (lane_get_slot(from, 0).kind != 0 || lane_get_slot(from, 0).tag[0] != 0)
+        fail("slot 0 was read");
     print_put(LANE_HEADER_BYTES + LANE_SLOT_BYTES, LANE_SLOT_BYTES);
 }
 
