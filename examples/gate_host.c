@@ -196,7 +196,7 @@ static void print_legend(void)
            "  for GATE, to the withdrawal of its job; - nothing.\n"
            "BDEA: the flags busy, done, error, aborted.\n"
            "pass: passes of the call, the stopping one included; used: replies taken.\n"
-           "elapsed/time-out: microseconds from the job's start to its last clock reading\n"
+           "elapsed/time-out: microseconds counted from the job's start to its last reading\n"
            "  (an ended or aborting job reads none), and those allowed, if any.\n"
            "code: why a job failed; %d is elapsed past the time-out, even if complete.\n"
            "clock: in microseconds; it wraps from 4294967295 to 0 before scan 4.\n\n"

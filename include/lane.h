@@ -53,7 +53,11 @@
 #define LANE_MAX_PIECES 4
 
 /* Layouts: the offset of each field, and beside it its width in bytes and its meaning. Bytes without a
- * name are zero. Times and clocks are in microseconds; a clock wraps from 2^32 - 1 to 0. */
+ * name are zero. Times and clocks are in microseconds; a clock wraps from 2^32 - 1 to 0. From one reading to
+ * the next counts their difference modulo 2^32, and nothing where that is 2^31 or more: the reading is out of
+ * step, and the last reading stays. The time limit counts so from the clock at the call. So readings a little
+ * early do no harm; but a gap of 2^31 to 2^32 - 1 microseconds (35:47 to 71:34 minutes) between two readings
+ * of a job counts as none, and whole turns of the clock are never seen: elapsed is no wall clock. */
 
 /* The header of a table, its first bytes. Slots follow, numbered from 1. */
 enum {
@@ -86,7 +90,7 @@ enum {
     LANE_AT_RECORD_TIME_LIMIT = 12, /* 4  the time limit taken at the start, 0 for none */
     LANE_AT_RECORD_TIME_OUT = 16,   /* 4  the time-out taken at the start, 0 for none */
     LANE_AT_RECORD_READING = 20,    /* 4  the last clock reading */
-    LANE_AT_RECORD_ELAPSED = 24     /* 8  the time from the start to the last reading, at most 2^32 */
+    LANE_AT_RECORD_ELAPSED = 24     /* 8  the time counted from the start on, at most 2^32 */
 };
 
 /* A frame entry, at LANE_ENTRY_BYTES * (position - 1). The pieces are the job's work in this call, one reply

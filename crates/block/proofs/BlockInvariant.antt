@@ -24,7 +24,7 @@ use Rattle.block.specs.Sound.{sound, zeroed, flagsFit, codeSound, reques
 use Rattle.block.specs.Call.{Outcome, callOf, Whole}
 use Rattle.block.specs.Turns.{Turns, end, start, finish, countOf, hasStart}
 use Rattle.block.specs.History.{History, fresh, _then_, eventsOf, recordAfter, tickAll, clocksOf, timerOf, takenTimeOut, timeOutInForce}
-use Rattle.block.specs.BlockInvariant.{seenCall, MachineHistory, noCall, andCall, isOpen, openJob, flagCount, EachCall, nothing, andSeen, BlockInvariantHolds}
+use Rattle.block.specs.BlockInvariant.{seenCall, MachineHistory, noCall, andCall, isOpen, openJob, flagCount, EachCall, nothing, andSeen, BlockInvariantHolds, CallsCountInStep}
 use Rattle.block.specs.declared.record.Record.{Record}
 use Rattle.block.specs.declared.event.Event.{Event}
 use Rattle.block.specs.declared.entry.Inputs.{Inputs}
@@ -36,7 +36,7 @@ use Rattle.block.proofs.Shapes.{isDone, isError, isAborted, Settled, id
 use Rattle.block.proofs.CallLaws.{call-whole}
 use Rattle.block.proofs.SoundLaws.{call-sound}
 use Rattle.block.proofs.EventLaws.{turns-append, call-turns, call-jobs}
-use Rattle.block.proofs.TimeLaws.{Timing, call-time}
+use Rattle.block.proofs.TimeLaws.{Timing, call-time, call-in-step}
 
 -- starts and finishes in turns: as many, with the job that is open
 
@@ -171,3 +171,8 @@ block-invariant k h m =
       stored = x .stored;
       sound = x .sound;
     }
+
+pub counts-in-step : CallsCountInStep
+counts-in-step k h s (andCall m i e fits clock) to =
+    let x = kept m in
+    call-in-step clock (x .sound) (call-whole k i e (recordAfter h) (x .sound) .called) to

@@ -10,11 +10,11 @@ use Rattle.block.specs.Resetting.{resetting}
 use Rattle.block.specs.Rules.{rule}
 use Rattle.block.specs.Call.{callWithin, callOf}
 use Rattle.block.specs.WorkedExamples.{rowsFrom}
-use Rattle.block.specs.CallExamples.{takenAtStart, readEachCall, abortInputs, startInputs, timeLimits, limitTests, endOfPieces, timeOuts, heldElapsed}
+use Rattle.block.specs.CallExamples.{takenAtStart, readEachCall, abortInputs, startInputs, timeLimits, limitTests, outOfStepReadings, endOfPieces, timeOuts, heldElapsed}
 use Rattle.block.specs.CallExamples.{completes, continuousErrors, endedSteps, abortReplies, resetReplies, moreCases, CallExamples}
 
 pub call-examples : CallExamples
-unfolding moreCases takenAtStart readEachCall abortInputs startInputs timeLimits limitTests endOfPieces timeOuts heldElapsed completes continuousErrors endedSteps abortReplies resetReplies
+unfolding moreCases takenAtStart readEachCall abortInputs startInputs timeLimits limitTests outOfStepReadings endOfPieces timeOuts heldElapsed completes continuousErrors endedSteps abortReplies resetReplies
     rowsFrom callOf callWithin rule dormant executing judge usePieces ended aborting resetting
     isEdge hasAbort hasTimeLimit hasTimeOut isContinuous since tick past pastLimit pastTimeOut
 call-examples = refl

@@ -1,11 +1,11 @@
 -- The shapes that a record takes between the passes of a call; between calls they are the sound records. For the laws of calls.
-use Prim.Native.Nat.{ℕ}
+use Prim.Native.Nat.{ℕ, _≤_}
 use native.Mathlib.Omega.{arith}
 use mathlib.Core.Bool.{Bool, true, false, not, _&&_, _||_, Bool·beq}
 use mathlib.Core.List.{[], _∷_}
 use mathlib.Core.Path.{_≡_, refl, sym, subst}
 use lib.Dec.{eqb, leb}
-use borrow.Author.Tests.{not-true, not-false, eqb-true, leb-false, le-leb}
+use borrow.Author.Tests.{not-true, not-false, eqb-true, leb-true, leb-false, le-leb}
 use Rattle.kind.specs.Kind.{isKind, isEdge, hasAbort, canAbort, hasTimeLimit, hasTimeOut, isContinuous}
 use Rattle.clock.specs.Clock.{mostElapsed}
 use Rattle.clock.specs.declared.Timer.{Timer}
@@ -80,6 +80,14 @@ unfolding sound
 parts k r h =
     let p = each (implies (eqb (r .step) Dormant) (zeroed r)) (flagsFit k (r .step) (r .flags) ∷ codeSound k r ∷ requestSound k r ∷ stepSound k r ∷ timesSound k r ∷ []) h in
     record { zero = p .0; flags = p .1 .0; code = p .1 .1 .0; request = p .1 .1 .1 .0; step = p .1 .1 .1 .1 .0; times = p .1 .1 .1 .1 .1 }
+
+-- "Elapsed is at most 4,294,967,296."
+pub sound-held : (k : ℕ) (r : Record) → sound k r ≡ true → r .timer .elapsed ≤ mostElapsed
+unfolding timesSound
+sound-held k r h =
+    let limit = eqb (r .limit) 0 || (isEdge k && hasTimeLimit k) in
+    let timeOut = eqb (r .timeout) 0 || (isEdge k && hasTimeOut k) in
+    leb-true (r .timer .elapsed) mostElapsed (each (leb (r .timer .elapsed) mostElapsed) (limit ∷ timeOut ∷ []) (parts k r h .times) .0)
 
 -- flags of which just some are set
 flags-are : (b d x a : Bool) (f : Flags) → only b d x a f ≡ true → f ≡ flagsOf b d x a

@@ -9,9 +9,9 @@ use Rattle.block.specs.Aborting.{aborting}
 use Rattle.block.specs.Resetting.{resetting}
 use Rattle.block.specs.Rules.{rule}
 use Rattle.block.specs.Call.{callWithin, callOf}
-use Rattle.block.specs.TimeExamples.{timersFrom, everyKind, timeRules, TimeExamples}
+use Rattle.block.specs.TimeExamples.{timersFrom, everyKind, timeRules, timedCases, TimeExamples}
 
 pub time-examples : TimeExamples
-unfolding everyKind timeRules timersFrom callOf callWithin rule dormant executing judge usePieces ended aborting resetting
+unfolding timedCases everyKind timeRules timersFrom callOf callWithin rule dormant executing judge usePieces ended aborting resetting
     isEdge hasAbort hasTimeLimit hasTimeOut isContinuous since tick past pastLimit pastTimeOut
 time-examples = refl

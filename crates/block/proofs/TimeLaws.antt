@@ -1,14 +1,16 @@
 -- What a call that stops in Executing says of time: elapsed is counted from the start, or from the record before, over the call clock and the
--- clocks of the pieces used; it is not past the time-out in force; and the stored time-out is kept, or taken at the start. For histories.
+-- clocks of the pieces used, of those in step alone; it is not past the time-out in force; and the stored time-out is kept, or taken at the start. For histories.
 use Prim.Native.Nat.{ℕ, _≤_, _<_}
 use native.Mathlib.Omega.{arith}
 use native.Mathlib.Nat.{zero-add}
-use mathlib.Core.Bool.{true, false, cond}
+use mathlib.Core.Bool.{Bool, true, false, cond}
 use mathlib.Core.Logic.{_≢_}
-use mathlib.Core.Path.{_≡_, _∙_, sym}
+use mathlib.Core.List.{List, [], _∷_}
+use mathlib.Core.Path.{_≡_, _∙_, refl, sym, ap}
 use lib.ListN.{take}
-use Rattle.clock.specs.Clock.{clockModulus, start, tick}
-use Rattle.clock.proofs.ClockLaws.{tick-start, in-time}
+use Rattle.clock.specs.Clock.{clockModulus, mostElapsed, outOfStep, start, tick}
+use Rattle.clock.specs.declared.Timer.{Timer}
+use Rattle.clock.proofs.ClockLaws.{tick-held, tick-start, tick-out-of-step, tick-in-step, in-time}
 use Rattle.block.specs.Record.{Executing}
 use Rattle.block.specs.Entry.{entryFits}
 use Rattle.block.specs.Dormant.{timeOutTaken}
@@ -17,14 +19,14 @@ use Rattle.block.specs.Sound.{sound}
 use Rattle.block.specs.Rules.{pass}
 use Rattle.block.specs.Call.{Outcome, passThen, Call, stops, goes}
 use Rattle.block.specs.Turns.{hasStart}
-use Rattle.block.specs.History.{tickAll, clocksOf}
+use Rattle.block.specs.History.{tickAll, clocksOf, inStep}
 use Rattle.block.specs.declared.record.Record.{Record}
 use Rattle.block.specs.declared.entry.Inputs.{Inputs}
 use Rattle.block.specs.declared.entry.Entry.{Entry}
 use Rattle.block.specs.declared.pass.Pass.{Pass}
 use Rattle.membership.proofs.Logic.{by-test}
 use Rattle.block.proofs.Tests.{never}
-use Rattle.block.proofs.Shapes.{Shape, settled, settled-of}
+use Rattle.block.proofs.Shapes.{Shape, settled, settled-of, sound-held}
 use Rattle.block.proofs.Passes.{rank, Goes, starts, leaves, returns, passed}
 use Rattle.block.proofs.EventLaws.{hasStart-append, Events, events}
 
@@ -75,3 +77,33 @@ module _ (k : ℕ) (i : Inputs) (e : Entry) (fits : e .clock < clockModulus) whe
 
 pub call-time : {k : ℕ} {i : Inputs} {e : Entry} {r : Record} {o : Outcome} → e .clock < clockModulus → sound k r ≡ true → Call k i e r o → o .next .step ≡ Executing → Timing k e r o
 call-time {k} {i} {e} {r} {o} fits h c = timing k i e fits (settled (settled-of k (entryFits e ≡ true) r h)) c
+
+-- readings out of step can be left out
+counted-in-step : (t : Timer) (readings : List ℕ) → t .elapsed ≤ mostElapsed → tickAll t readings ≡ tickAll t (inStep (t .last) readings)
+unfolding tickAll inStep
+counted-in-step t [] h = refl
+counted-in-step t (c ∷ cs) h =
+    by-test (outOfStep (t .last) c)
+    (λ o. rw (o, tick-out-of-step t c h o) (counted-in-step t cs h))
+    (λ o. rw o (counted-in-step (tick t c) cs (tick-held t c) ∙ ap (λ (last : ℕ). tickAll (tick t c) (inStep last cs)) (tick-in-step t c o)))
+
+-- the call clock is added to the timer of a start too, and changes nothing there
+from-clock : (b : Bool) (t : Timer) (c : ℕ) → c < clockModulus → cond b (start c) (tick t c) ≡ tick (cond b (start c) t) c
+from-clock true t c fits = sym (tick-start c fits)
+from-clock false t c fits = refl
+
+from-held : (b : Bool) (t : Timer) (c : ℕ) → t .elapsed ≤ mostElapsed → cond b (start c) t .elapsed ≤ mostElapsed
+from-held true t c h = omega arith
+from-held false t c h = h
+
+pub call-in-step : {k : ℕ} {i : Inputs} {e : Entry} {r : Record} {o : Outcome} → e .clock < clockModulus → sound k r ≡ true → Call k i e r o → o .next .step ≡ Executing
+    → o .next .timer
+    ≡ tickAll (cond (hasStart (o .events)) (start (e .clock)) (r .timer))
+    (inStep (cond (hasStart (o .events)) (start (e .clock)) (r .timer) .last) (e .clock ∷ take (o .used) (clocksOf (e .pieces))))
+unfolding tickAll
+call-in-step {k} {i} {e} {r} {o} fits h c to =
+    let used = take (o .used) (clocksOf (e .pieces)) in
+    let b = hasStart (o .events) in
+    call-time fits h c to .timer
+    ∙ ap (λ (t : Timer). tickAll t used) (from-clock b (r .timer) (e .clock) fits)
+    ∙ counted-in-step (cond b (start (e .clock)) (r .timer)) (e .clock ∷ used) (from-held b (r .timer) (e .clock) (sound-held k r h))

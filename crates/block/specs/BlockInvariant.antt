@@ -14,7 +14,7 @@ use Rattle.block.specs.Entry.{entryFits}
 use Rattle.block.specs.Sound.{sound}
 use Rattle.block.specs.Call.{Call, callOf}
 use Rattle.block.specs.Turns.{Turns, StartsHave, countOf}
-use Rattle.block.specs.History.{Seen, History, fresh, _then_, eventsOf, recordAfter, timerOf, takenTimeOut, timeOutInForce}
+use Rattle.block.specs.History.{Seen, History, fresh, _then_, eventsOf, recordAfter, tickAll, timerOf, readingsOf, countsFrom, inStep, takenTimeOut, timeOutInForce}
 use Rattle.block.specs.declared.record.Flags.{Flags}
 use Rattle.block.specs.declared.record.Record.{Record}
 use Rattle.block.specs.declared.entry.Inputs.{Inputs}
@@ -72,3 +72,11 @@ pub record BlockInvariant (k : ℕ) (h : History) : Type 0 where
 -- proved in proofs/BlockInvariant.antt
 abbrev pub BlockInvariantHolds : Type 0
 BlockInvariantHolds = (k : ℕ) (h : History) → MachineHistory k h → BlockInvariant k h
+
+-- document 02, 1/14: a reading out of step changes neither elapsed nor the last reading: they are those of the readings in step alone
+abbrev pub CountsInStep : Seen → Type 0
+CountsInStep s = s .after .timer ≡ tickAll (countsFrom s) (inStep (countsFrom s .last) (readingsOf s))
+
+-- theorem counts-in-step, there too
+abbrev pub CallsCountInStep : Type 0
+CallsCountInStep = (k : ℕ) (h : History) (s : Seen) → MachineHistory k (h then s) → s .after .step ≡ Executing → CountsInStep s

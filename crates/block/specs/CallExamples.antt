@@ -109,9 +109,41 @@ limitTests =
     ∷ [])
     -- over a wrap of the clock
     ∷ case 2 (withTimes 50 0 4294967290 (working 44 ∷ working 45 ∷ working 46 ∷ []) shows row 2 2 Executing busy 0 startAlone ∷ [])
-    -- by the piece's own clock: one that runs back is not added up
-    ∷ case 2 (withLimit 50 (working 40 ∷ working 30 ∷ working 20 ∷ []) shows row 2 3 Executing busy 0 startAlone ∷ [])
+    -- by one difference from the call clock, no sum of the pieces' times: 2,147,483,647 is at the limit, and 4,294,967,294 out of step with the call clock
+    ∷ case 2 (withLimit 2147483647 (working 2147483647 ∷ working 4294967294 ∷ working 30 ∷ []) shows row 2 3 Executing busy 0 startAlone ∷ [])
+    -- also where the call clock is out of step with the last reading; counted from that one, 142 would not be past the limit
+    ∷ case 2
+    (withTimes 50 0 100 (working 100 ∷ []) shows row 2 1 Executing busy 0 startAlone
+    ∷ withTimes 50 0 90 (working 140 ∷ working 141 ∷ working 142 ∷ []) shows row 1 2 Executing busy 0 []
+    ∷ [])
     ∷ []
+
+-- document 02, 1/14: "A difference of 2,147,483,648 or more shall count as 0, for the time limit and for elapsed, and the last reading then stays."
+abbrev pub limitOutOfStep : ℕ → List Case
+limitOutOfStep kind =
+    -- pieces a little before the call clock are not past the limit, and the use goes on
+    case kind (withTimes 50 0 100 (working 97 ∷ working 99 ∷ working 151 ∷ working 152 ∷ []) shows row 2 3 Executing busy 0 startAlone ∷ [])
+    -- the greatest difference that counts, and the least that does not
+    ∷ case kind (withLimit 2147483646 (working 2147483647 ∷ working 0 ∷ []) shows row 2 1 Executing busy 0 startAlone ∷ [])
+    ∷ case kind (withLimit 2147483646 (working 2147483648 ∷ working 0 ∷ []) shows row 2 2 Executing busy 0 startAlone ∷ [])
+    ∷ []
+
+abbrev pub timeOutOutOfStep : ℕ → List Case
+timeOutOutOfStep kind =
+    -- a piece three before the call clock adds nothing, nor does it move the last reading: the next call counts from 100
+    case kind
+    (withTimeOut 100 100 (working 97) shows row 2 1 Executing busy 0 startAlone
+    ∷ withTimeOut 100 105 (working 200) shows row 1 1 Executing busy 0 []
+    ∷ withTimeOut 100 199 (working 201) shows row 2 1 Error failed TimedOut (event Failed TimedOut 0 ∷ [])
+    ∷ [])
+    -- the greatest difference that counts, and the least that does not
+    ∷ case kind (withTimeOut 2147483646 0 (working 2147483647) shows row 3 1 Error failed TimedOut (startAnd (event Failed TimedOut 0)) ∷ [])
+    ∷ case kind (withTimeOut 2147483646 0 (working 2147483648) shows row 2 1 Executing busy 0 startAlone ∷ [])
+    ∷ []
+
+-- on an edge and on a level kind
+unfoldable pub outOfStepReadings : List Case
+outOfStepReadings = limitOutOfStep 2 ++ limitOutOfStep 10 ++ timeOutOutOfStep 3 ++ timeOutOutOfStep 11
 
 -- what else ends the pieces
 unfoldable pub endOfPieces : List Case
@@ -258,7 +290,7 @@ resetReplies =
 
 unfoldable pub moreCases : List Case
 moreCases =
-    takenAtStart ++ readEachCall ++ abortInputs ++ startInputs ++ timeLimits ++ limitTests ++ endOfPieces ++ timeOuts ++ heldElapsed
+    takenAtStart ++ readEachCall ++ abortInputs ++ startInputs ++ timeLimits ++ limitTests ++ outOfStepReadings ++ endOfPieces ++ timeOuts ++ heldElapsed
     ++ completes ++ continuousErrors ++ endedSteps ++ abortReplies ++ resetReplies
 
 -- proved in proofs/CallExamples.antt

@@ -4,7 +4,7 @@ use mathlib.Core.Bool.{cond}
 use mathlib.Core.List.{List, [], _∷_, _++_}
 use lib.ListN.{take}
 use Rattle.kind.specs.Kind.{isEdge, hasTimeOut}
-use Rattle.clock.specs.Clock.{start, tick}
+use Rattle.clock.specs.Clock.{start, tick, outOfStep}
 use Rattle.clock.specs.declared.Timer.{Timer}
 use Rattle.block.specs.Record.{freshRecord}
 use Rattle.block.specs.Dormant.{timeOutTaken}
@@ -56,6 +56,19 @@ unfoldable pub timerOf : History → Timer
 timerOf fresh = start 0
 timerOf (h then s) =
     tickAll (cond (hasStart (s .events)) (start (s .entry .clock)) (tick (timerOf h) (s .entry .clock))) (take (s .used) (clocksOf (s .entry .pieces)))
+
+-- the readings of a call that stops in Executing: its clock and those of the pieces used
+abbrev pub readingsOf : Seen → List ℕ
+readingsOf s = s .entry .clock ∷ take (s .used) (clocksOf (s .entry .pieces))
+
+-- what it adds them to: the timer of a start in it, else that of the record before
+abbrev pub countsFrom : Seen → Timer
+countsFrom s = cond (hasStart (s .events)) (start (s .entry .clock)) (s .before .timer)
+
+-- those of some readings that are in step, each with the last one in step before it
+unfoldable pub inStep : ℕ → List ℕ → List ℕ
+inStep last [] = []
+inStep last (c ∷ cs) = cond (outOfStep last c) (inStep last cs) (c ∷ inStep c cs)
 
 -- the time-out that the last start took, 0 before the first
 unfoldable pub takenTimeOut : ℕ → History → ℕ

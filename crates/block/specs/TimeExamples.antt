@@ -84,6 +84,35 @@ timeRules =
     ∷ timed 1 (calledAt 5 (complete 15 ∷ []) leaves timer 15 10 ∷ calledAt 90 (working 95 ∷ []) leaves timer 15 10 ∷ startOff (working 99) leaves timer 0 0 ∷ [])
     ∷ []
 
+-- document 02, 1/14: "A difference of 2,147,483,648 or more shall count as 0 ... and the last reading then stays."
+abbrev pub outOfStepTimes : ℕ → List TimedCase
+outOfStepTimes kind =
+    -- a piece ten before the call clock, and over a wrap four before it
+    timed kind (calledAt 100 (working 90 ∷ []) leaves timer 100 0 ∷ calledAt 105 [] leaves timer 105 5 ∷ [])
+    ∷ timed kind (calledAt 3 (working 4294967295 ∷ []) leaves timer 3 0 ∷ [])
+    -- the greatest difference that counts, and the least that does not
+    ∷ timed kind (calledAt 0 (working 2147483647 ∷ []) leaves timer 2147483647 2147483647 ∷ [])
+    ∷ timed kind (calledAt 0 (working 2147483648 ∷ []) leaves timer 0 0 ∷ [])
+    -- "A gap of that length between calls is now taken as none", and so are the readings after it, until one is in step with the last reading that stayed
+    ∷ timed kind
+    (calledAt 0 [] leaves timer 0 0
+    ∷ calledAt 2147483648 [] leaves timer 0 0
+    ∷ calledAt 2147483848 [] leaves timer 0 0
+    ∷ calledAt 50 [] leaves timer 50 50
+    ∷ calledAt 101 [] leaves timer 101 101
+    ∷ [])
+    -- a start sets the last reading, also to a clock out of step with the 0 of a Dormant record, and with the job before
+    ∷ timed kind
+    (calledAt 1000 (error 5 1010 ∷ []) leaves timer 1010 10
+    ∷ startOff (working 0) leaves timer 0 0
+    ∷ calledAt 3000000000 (working 3000000001 ∷ []) leaves timer 3000000001 1
+    ∷ [])
+    ∷ []
+
+-- all of them, out of step on an edge and on a level kind
+unfoldable pub timedCases : List TimedCase
+timedCases = everyKind ++ timeRules ++ outOfStepTimes 1 ++ outOfStepTimes 13
+
 -- theorem time-examples, proofs/TimeExamples.antt
 abbrev pub TimeExamples : Type 0
-TimeExamples = map timersMade (everyKind ++ timeRules) ≡ map timersDue (everyKind ++ timeRules)
+TimeExamples = map timersMade timedCases ≡ map timersDue timedCases

@@ -1,24 +1,34 @@
--- What the counted time means, before and after the counter wraps, as specs/Clock.antt states it, and the laws of time that the block machine, its
--- history and the list of scans use.
-use Prim.Native.Nat.{ℕ, _<_, _≤_}
-use mathlib.Core.Bool.{false}
+-- What the counted time means, before and after the counter wraps and out of step, as specs/Clock.antt states it, and the laws of time that the block machine,
+-- its history and the list of scans use.
+use Prim.Native.Nat.{ℕ, _+_, _-_, _%_, min, _<_, _≤_}
+use mathlib.Core.Bool.{Bool, true, false, cond}
 use mathlib.Core.Logic.{_≢_}
 use mathlib.Core.Path.{_≡_, refl}
 use native.Mathlib.Omega.{arith}
-use borrow.Author.Tests.{ltb-false, ne-eqb}
-use Rattle.clock.specs.Clock.{clockModulus, mostElapsed, since, SinceBefore, SinceAfter, start, tick, past, pastTimeOut}
+use borrow.Author.Tests.{ltb-false, le-leb, lt-leb, ne-eqb}
+use Rattle.clock.specs.Clock.{clockModulus, mostElapsed, leastOutOfStep, since, outOfStep, CountedBefore, CountedAfter, CountedBack, start, tick, TickOutOfStep, TickInStep, past, pastTimeOut}
 use Rattle.clock.specs.declared.Timer.{Timer}
 
-pub since-before : SinceBefore
+pub counted-before : CountedBefore
 unfolding since
-since-before from to h l = omega arith
+counted-before from to h l short =
+    let e : since from to ≡ to - from = omega arith in
+    rw (e, lt-leb leastOutOfStep (to - from) short)
 
-pub since-after : SinceAfter
+pub counted-after : CountedAfter
 unfolding since
-since-after from to h l = omega arith
+counted-after from to h l short =
+    let e : since from to ≡ to + clockModulus - from = omega arith in
+    rw (e, lt-leb leastOutOfStep (to + clockModulus - from) short)
+
+pub counted-back : CountedBack
+unfolding since
+counted-back to back h l m =
+    let e : leastOutOfStep ≤ since ((to + back) % clockModulus) to = omega arith in
+    rw (le-leb leastOutOfStep (since ((to + back) % clockModulus) to) e)
 
 -- no time passes from a reading to itself
-pub since-same : (reading : ℕ) → reading < clockModulus → since reading reading ≡ 0
+since-same : (reading : ℕ) → reading < clockModulus → since reading reading ≡ 0
 unfolding since
 since-same reading h = omega arith
 
@@ -30,7 +40,19 @@ tick-held t reading = omega arith
 -- what holds of the last reading and of the new one holds of the last reading after it
 pub tick-last : (P : ℕ → Type 0) (t : Timer) (reading : ℕ) → P (t .last) → P reading → P (tick t reading .last)
 unfolding tick
-tick-last P t reading stays moves = moves
+tick-last P t reading stays moves = go (outOfStep (t .last) reading)
+  where
+    go : (b : Bool) → P (cond b (t .last) reading)
+    go true = stays
+    go false = moves
+
+pub tick-out-of-step : TickOutOfStep
+unfolding tick
+tick-out-of-step t reading h o = rw o (let e : min (t .elapsed + 0) mostElapsed ≡ t .elapsed = omega arith in rw e)
+
+pub tick-in-step : TickInStep
+unfolding tick
+tick-in-step t reading o = rw o
 
 -- the call clock, read again in the call of the start, adds nothing
 pub tick-start : (reading : ℕ) → reading < clockModulus → tick (start reading) reading ≡ start reading

@@ -1,5 +1,5 @@
--- The lists of scans of specs/RunExamples, WireExamples and SelfWireExamples, computed from the bytes of the table, the lent buffer and the frames: for
--- the reader, so that the run promise is seen not to be empty.
+-- The lists of scans of specs/RunExamples, WireExamples, SelfWireExamples and CountedTimeExamples, computed from the bytes of the table, the lent buffer and the
+-- frames: for the reader, so that the run promise is seen not to be empty.
 use mathlib.Core.Path.{refl}
 use Rattle.kind.specs.Kind.{isKind, isEdge, canAbort, hasAbort, hasTimeLimit, hasTimeOut, isContinuous}
 use Rattle.clock.specs.Clock.{since, tick, past, pastLimit, pastTimeOut}
@@ -33,17 +33,20 @@ use Rattle.engine.specs.Serve.{callIn, served, servedTo}
 use Rattle.engine.specs.Fresh.{freshOf}
 use Rattle.engine.specs.Scan.{scanBlocks, scanOf}
 use Rattle.run.specs.Scans.{flagsSeen, stateFrom, journalFrom, historyFrom}
-use Rattle.run.specs.ExampleParts.{answersOf, passesOf, usedOf, startsOf}
+use Rattle.run.specs.ExampleParts.{answersOf, passesOf, usedOf, startsOf, timersOf}
 use Rattle.run.specs.RunExamples.{image, buffer, starts, isDone, damaged, fails, rests, isLate, isAborted, works, scans, running, RunExample}
 use Rattle.run.specs.WireExamples.{camBytes, timesOut, restarts, WireExample}
 use Rattle.run.specs.WireExamples.{image as wireImage, buffer as wireBuffer, starts as wireStarts, works as wireWorks, running as wireRunning, scans as wireScans}
 use Rattle.run.specs.SelfWireExamples.{aborts, SelfWireExample}
 use Rattle.run.specs.SelfWireExamples.{image as selfImage, buffer as selfBuffer, starts as selfStarts, scans as selfScans}
+use Rattle.run.specs.CountedTimeExamples.{CountedTimeExample}
+use Rattle.run.specs.CountedTimeExamples.{image as clockImage, buffer as clockBuffer, running as clockRunning, scans as clockScans}
 
-computed : RunExample × WireExample × SelfWireExample
-unfolding image buffer starts isDone damaged fails rests isLate isAborted works scans running answersOf passesOf usedOf startsOf
+computed : RunExample × WireExample × SelfWireExample × CountedTimeExample
+unfolding image buffer starts isDone damaged fails rests isLate isAborted works scans running answersOf passesOf usedOf startsOf timersOf
     wireImage wireBuffer camBytes wireStarts wireWorks timesOut restarts wireRunning wireScans
     selfImage selfBuffer selfStarts aborts selfScans
+    clockImage clockBuffer clockRunning clockScans
     freshOf stateFrom journalFrom historyFrom scanOf scanBlocks verifyOf stateSound frameForm servedTo served callIn inputsOf flagsSeen
     checkOf verdictOf headerCheck walked walkIn unmet recordsCheck recordsFrom recordCheck tagAmong tagForm tagText tagChar padded
     spaces sameBytes sparesCheck sparesFrom allZero blocksIn blockIn positionFrom
@@ -70,6 +73,7 @@ computed = (
     state = refl;
   },
   record { answers = refl; journal = refl; beacon = refl; passes = refl; report = refl; events = refl },
+  record { answers = refl; timers = refl; step = refl; elapsed = refl; inForce = refl; journal = refl },
 )
 
 pub run-example : RunExample
@@ -80,3 +84,6 @@ wire-example = computed .1
 
 pub self-wire-example : SelfWireExample
 self-wire-example = computed .2
+
+pub counted-time-example : CountedTimeExample
+counted-time-example = computed .3

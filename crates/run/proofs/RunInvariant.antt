@@ -16,14 +16,16 @@ use Rattle.layout.specs.RecordLayout.{recordForm, soundBytes}
 use Rattle.layout.specs.EventLayout.{eventsAt}
 use Rattle.membership.proofs.Logic.{and-join}
 use Rattle.block.specs.History.{fresh, eventsOf, recordAfter}
-use Rattle.block.specs.BlockInvariant.{noCall}
+use Rattle.block.specs.BlockInvariant.{MachineHistory, noCall}
 use Rattle.block.specs.Sound.{sound}
 use Rattle.block.proofs.BlockInvariant.{block-invariant}
+use Rattle.block.proofs.BlockInvariant.{counts-in-step as call-counts}
 use Rattle.engine.specs.Serve.{recordIn}
 use Rattle.engine.specs.Fresh.{freshOf}
 use Rattle.engine.specs.Scan.{ScanResult}
-use Rattle.run.specs.Scans.{Scans, Given, FramesAreBytes, noScan, andScan, withEvents, withSeen, stateFrom, resultFrom, journalFrom, historyFrom, stateAfter, historyOf, none, _andThen_}
-use Rattle.run.specs.RunInvariant.{BlockRun, RunInvariantHolds, StateFitsAfter, NextIsAccepted}
+use Rattle.engine.specs.declared.scan.Scanned.{Scanned}
+use Rattle.run.specs.Scans.{Scans, Given, FramesAreBytes, noScan, andScan, seenAt, withEvents, withSeen, stateFrom, resultFrom, journalFrom, historyFrom, stateAfter, resultOf, historyOf, none, _andThen_}
+use Rattle.run.specs.RunInvariant.{BlockRun, RunInvariantHolds, ScansCountInStep, StateFitsAfter, NextIsAccepted}
 use Rattle.run.proofs.FitsLaws.{fresh-fits}
 use Rattle.engine.proofs.FreshLaws.{FreshMade, fresh-made, zeros-fresh, zeros-form}
 use Rattle.engine.proofs.ScanAccepted.{scan-accepted}
@@ -130,6 +132,16 @@ pub run-invariant : RunInvariantHolds
 run-invariant image buffer n e scans x =
     let m = fresh-made image buffer n e in
     record { blocks = block-run image buffer n m x; positions = λ p o. none-other image (freshOf image buffer .state) n (m .table) (fresh-held image buffer n m) p o x }
+
+-- elapsed and the last reading after an accepted scan
+pub counts-in-step : ScansCountInStep
+unfolding stateFrom historyFrom
+counts-in-step image buffer n e scans g x m answer k l to =
+    let kind = blockAt (blocksOf image) k .kind in
+    let result = resultOf image buffer scans g in
+    let history = subst (λ (a : Scanned). MachineHistory kind (withSeen image k (historyOf image buffer k scans) (stateAfter image buffer scans) g a result)) answer
+    (kept-after image buffer n (fresh-made image buffer n e) k l x .made) in
+    call-counts kind (historyOf image buffer k scans) (seenAt image k (stateAfter image buffer scans) g result m) history to
 
 -- the state fits after any list of scans, so that only what it is given can turn the next one back
 pub state-fits : StateFitsAfter

@@ -3,6 +3,7 @@ use Prim.Native.Nat.{ℕ, _*_}
 use mathlib.Core.Bool.{Bool}
 use mathlib.Core.List.{List, [], _∷_, _++_}
 use lib.ListN.{replicate}
+use Rattle.clock.specs.declared.Timer.{Timer}
 use Rattle.table.specs.Place.{Answer}
 use Rattle.layout.specs.Buffer.{reportLength, eventLength}
 use Rattle.layout.specs.EventLayout.{Posted}
@@ -45,6 +46,11 @@ usedOf (h then s) = usedOf h ++ (s .used ∷ [])
 unfoldable pub startsOf : History → List Bool
 startsOf fresh = []
 startsOf (h then s) = startsOf h ++ (s .inputs .start ∷ [])
+
+-- the last reading and elapsed after each call, as the state buffer has them
+unfoldable pub timersOf : History → List Timer
+timersOf fresh = []
+timersOf (h then s) = timersOf h ++ (s .after .timer ∷ [])
 
 -- an event of the block at a position
 abbrev pub at : ℕ → ℕ → ℕ → ℕ → Posted

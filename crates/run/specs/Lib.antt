@@ -4,3 +4,4 @@ pub mod ExampleParts
 pub mod RunExamples
 pub mod WireExamples
 pub mod SelfWireExamples
+pub mod CountedTimeExamples

@@ -15,12 +15,12 @@ use Rattle.block.specs.Record.{Dormant, Executing, bit}
 use Rattle.block.specs.Event.{Start, DoneEvent, Failed, AbortedEvent, Withdrawn}
 use Rattle.block.specs.Turns.{Turns, countOf}
 use Rattle.block.specs.History.{timerOf, takenTimeOut, timeOutInForce, eventsOf}
-use Rattle.block.specs.BlockInvariant.{EachCall, isOpen, openJob, flagCount}
+use Rattle.block.specs.BlockInvariant.{EachCall, isOpen, openJob, flagCount, CountsInStep}
 use Rattle.block.specs.declared.record.Record.{Record}
 use Rattle.block.specs.declared.event.Event.{Event}
 use Rattle.engine.specs.Serve.{recordIn}
 use Rattle.engine.specs.Fresh.{freshOf}
-use Rattle.run.specs.Scans.{Scans, FramesAreBytes, Given, stateAfter, resultOf, journalOf, historyOf}
+use Rattle.run.specs.Scans.{Scans, _andThen_, FramesAreBytes, Given, seenAt, stateAfter, resultOf, journalOf, historyOf}
 use Rattle.engine.specs.ScanAccepted.{StateFits, GivenFits}
 use Rattle.table.specs.declared.check.Checked.the-variants.{Blocks}
 use Rattle.engine.specs.declared.scan.Scanned.the-variants.{Events}
@@ -72,6 +72,14 @@ pub record RunInvariant (image buffer : List ℕ) (scans : Scans) : Type 0 where
 abbrev pub RunInvariantHolds : Type 0
 RunInvariantHolds =
     (image buffer : List ℕ) (n : ℕ) → freshOf image buffer .answer ≡ Blocks n → (scans : Scans) → FramesAreBytes scans → RunInvariant image buffer scans
+
+-- Document 02, 1/14: "the time-out promise means time counted this way", which is no wall clock: after an accepted scan that leaves a block in Executing, its elapsed and
+-- its last reading are those of its readings in step alone; one out of step changes neither. Theorem counts-in-step, proofs/RunInvariant.antt
+abbrev pub ScansCountInStep : Type 0
+ScansCountInStep =
+    (image buffer : List ℕ) (n : ℕ) → freshOf image buffer .answer ≡ Blocks n → (scans : Scans) (g : Given) → FramesAreBytes (scans andThen g)
+    → (m : ℕ) → resultOf image buffer scans g .answer ≡ Events m → (k : ℕ) → k < length (blocksOf image) → blockRecord image buffer (scans andThen g) k .step ≡ Executing
+    → CountsInStep (seenAt image k (stateAfter image buffer scans) g (resultOf image buffer scans g) m)
 
 -- theorem state-fits, proofs/RunInvariant.antt: after any list of scans from fresh the state buffer fits
 abbrev pub StateFitsAfter : Type 0

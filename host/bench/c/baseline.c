@@ -16,6 +16,7 @@ enum { BUSY = 1, DONE = 2, ERROR = 4, ABORTED = 8 };
 enum { S_DORMANT, S_EXECUTING, S_DONE, S_ERROR, S_ABORTING, S_ABORTED, S_RESETTING };
 
 #define HELD 4294967296u
+#define OUT_OF_STEP 2147483648u
 
 struct table {
     const uint8_t *image;
@@ -301,9 +302,19 @@ static void event(struct call *c, uint8_t kind, uint16_t code)
     put32(p + 4, c->r->job);
 }
 
+/* The time counted from one reading to another: none to one out of step. */
+static uint32_t counted(uint32_t from, uint32_t to)
+{
+    uint32_t time = to - from;
+    return time < OUT_OF_STEP ? time : 0;
+}
+
 static void tick(struct record *r, uint32_t reading)
 {
-    r->elapsed += (uint32_t)(reading - r->last);
+    uint32_t time = reading - r->last;
+    if (time >= OUT_OF_STEP)
+        return;
+    r->elapsed += time;
     if (r->elapsed > HELD)
         r->elapsed = HELD;
     r->last = reading;
@@ -330,7 +341,7 @@ static int executing(struct call *c)
         code = get16(piece + 2);
         tick(r, after);
         c->used++;
-        if (!has_limit(c->kind) || reply != 0 || (limit != 0 && (uint32_t)(after - clock) > limit) ||
+        if (!has_limit(c->kind) || reply != 0 || (limit != 0 && counted(clock, after) > limit) ||
             (time_out != 0 && r->elapsed > time_out))
             break;
     }

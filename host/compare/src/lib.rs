@@ -7,12 +7,14 @@
 //! - [`records`]: state records and frame entries, in form and out of it.
 //! - [`scans`]: lists of scans, with damage to what a scan is given.
 //! - [`scan_check`]: one fresh state or scan by each implementation, compared.
+//! - [`readings`]: the readings of calls, those out of step counted.
 //! - [`seen`]: what the accepted scans did.
 //! - [`tally`]: counts of what was seen.
 
 #![forbid(unsafe_code)]
 
 pub mod check;
+pub mod readings;
 pub mod records;
 pub mod rng;
 pub mod scan_check;

@@ -1,7 +1,7 @@
 //! State records, sound and unsound, and frame entries, formed and not, for each kind.
 
 use crate::rng::Rng;
-use lane::{ENTRY_BYTES, MAX_PIECES, PIECE_BYTES, RECORD_BYTES};
+use lane::{Record, Step, ENTRY_BYTES, MAX_PIECES, PIECE_BYTES, RECORD_BYTES};
 
 /// Where a record's fields begin, and its unnamed bytes.
 const STEP: usize = 0;
@@ -46,6 +46,9 @@ const ABORTED: u8 = 8;
 /// The greatest elapsed time.
 const HELD: u64 = 1 << 32;
 
+/// Half the range of the counter: a reading so far after another, or farther, is out of step with it.
+pub const HALF: u32 = 1 << 31;
+
 /// What a kind has.
 #[derive(Clone, Copy, Debug)]
 pub struct Has {
@@ -83,17 +86,28 @@ pub fn word(rng: &mut Rng) -> u32 {
         0 => 0,
         1..=4 => rng.range(1, 200) as u32,
         5 => (rng.below(200) as u32).wrapping_neg(),
-        6 => (1 << 31) + rng.below(200) as u32 - 100,
+        6 => HALF + rng.below(200) as u32 - 100,
         _ => rng.next() as u32,
     }
 }
 
-/// An elapsed time, up to the greatest.
+/// Half the range of the counter, or one less or more.
+fn half(rng: &mut Rng) -> u32 {
+    HALF - 1 + rng.below(3) as u32
+}
+
+/// A few microseconds back.
+fn back(rng: &mut Rng) -> u32 {
+    (rng.range(1, 20) as u32).wrapping_neg()
+}
+
+/// An elapsed time, up to the greatest, and at times about half the range short of it.
 fn elapsed(rng: &mut Rng) -> u64 {
-    match rng.below(8) {
+    match rng.below(9) {
         0 => 0,
         1..=4 => rng.range(1, 200) as u64,
         5 => HELD - rng.below(3) as u64,
+        6 => u64::from(HALF) + rng.below(4) as u64,
         _ => rng.next() & (HELD - 1),
     }
 }
@@ -145,10 +159,10 @@ fn sound_open(rng: &mut Rng, kind: u8) -> [u8; RECORD_BYTES] {
         put(&mut record, CODE, &code.to_le_bytes());
     }
     if !has.level && has.limit {
-        put(&mut record, LIMIT, &word(rng).to_le_bytes());
+        put(&mut record, LIMIT, &bound(rng).to_le_bytes());
     }
     if !has.level && has.time_out {
-        put(&mut record, TIME_OUT, &word(rng).to_le_bytes());
+        put(&mut record, TIME_OUT, &bound(rng).to_le_bytes());
     }
     put(&mut record, READING, &word(rng).to_le_bytes());
     put(&mut record, ELAPSED, &elapsed(rng).to_le_bytes());
@@ -227,41 +241,75 @@ pub fn unsound(rng: &mut Rng, kind: u8) -> [u8; RECORD_BYTES] {
     record
 }
 
-/// A clock that goes on by small steps, and sometimes stands, wraps or runs back.
+/// A step of a clock: none or a small one, a few microseconds back, about half the range, or any.
+fn step(rng: &mut Rng) -> u32 {
+    match rng.below(32) {
+        0..=6 => 0,
+        7..=19 => rng.range(1, 12) as u32,
+        20..=23 => rng.range(13, 120) as u32,
+        24..=27 => back(rng),
+        28..=30 => half(rng),
+        _ => rng.next() as u32,
+    }
+}
+
+/// A clock that goes on by small steps, and sometimes stands, wraps or runs back. Out of step, it goes on from
+/// there, and sooner or later comes back.
 #[derive(Clone, Debug)]
-pub struct Clock(u32);
+pub struct Clock {
+    now: u32,
+    /// The last reading that was in step.
+    last: u32,
+}
 
 impl Clock {
     /// A clock at zero, shortly before a wrap of the counter, or anywhere.
     pub fn new(rng: &mut Rng) -> Clock {
-        Clock(match rng.below(3) {
+        let now = match rng.below(3) {
             0 => 0,
             1 => (rng.range(1, 60) as u32).wrapping_neg(),
             _ => rng.next() as u32,
-        })
+        };
+        Clock { now, last: now }
+    }
+
+    /// Goes at times where a block that counts time last read it, a few microseconds before that, or half the
+    /// range away.
+    pub fn follow(&mut self, rng: &mut Rng, record: &[u8; RECORD_BYTES]) {
+        let Some(record) = Record::decode(record) else {
+            return;
+        };
+        if record.step == Step::Executing && rng.one_in(2) {
+            let off = match rng.below(6) {
+                0 => back(rng),
+                1 => half(rng),
+                _ => 0,
+            };
+            self.last = record.last_reading;
+            self.now = self.last.wrapping_add(off);
+        }
     }
 
     /// The next reading.
     fn read(&mut self, rng: &mut Rng) -> u32 {
-        let step = match rng.below(32) {
-            0..=7 => 0,
-            8..=23 => rng.range(1, 12) as u32,
-            24..=28 => rng.range(13, 120) as u32,
-            29 => (rng.range(1, 20) as u32).wrapping_neg(),
-            30 => (1 << 31) + rng.below(3) as u32 - 1,
-            _ => rng.next() as u32,
-        };
-        self.0 = self.0.wrapping_add(step);
-        self.0
+        if rng.one_in(3) {
+            self.now = self.last;
+        }
+        self.now = self.now.wrapping_add(step(rng));
+        if self.now.wrapping_sub(self.last) < HALF {
+            self.last = self.now;
+        }
+        self.now
     }
 }
 
-/// A limit or time-out: none, of the size of a few steps of the clock, or any.
+/// A limit or time-out: none, of the size of a few steps of the clock, about half the range, or any.
 fn bound(rng: &mut Rng) -> u32 {
-    match rng.below(10) {
+    match rng.below(12) {
         0..=2 => 0,
         3..=7 => rng.range(1, 30) as u32,
         8 => rng.range(31, 200) as u32,
+        9 | 10 => HALF - 2 + rng.below(4) as u32,
         _ => word(rng),
     }
 }

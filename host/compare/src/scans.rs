@@ -48,38 +48,42 @@ pub fn sound_state(rng: &mut Rng, table: &Table) -> Vec<u8> {
     kinds.flat_map(|kind| sound(rng, kind)).collect()
 }
 
-/// A list of scans under way: what stays the same from one scan to the next.
+/// A clock for each block: all begin together, or each anywhere.
+fn clocks(rng: &mut Rng, blocks: usize) -> Vec<Clock> {
+    if rng.one_in(2) {
+        return vec![Clock::new(rng); blocks];
+    }
+    (0..blocks).map(|_| Clock::new(rng)).collect()
+}
+
+/// A list of scans under way: what goes on from one scan to the next.
 #[derive(Clone, Debug)]
 pub struct List {
     pub table: Table,
     drive: Drive,
-    clock: Clock,
-    /// Whether all blocks of a scan are called at about the same time.
-    together: bool,
+    /// A clock for each block.
+    clocks: Vec<Clock>,
 }
 
 impl List {
     pub fn new(rng: &mut Rng, table: Table) -> List {
         let drive = Drive::any(rng);
-        let clock = Clock::new(rng);
+        let clocks = clocks(rng, table.chain.len());
         List {
             table,
             drive,
-            clock,
-            together: rng.one_in(2),
+            clocks,
         }
     }
 
-    /// The next scan from this state, with a formed frame and buffers that hold anything.
+    /// The next scan from this state of the table's blocks, with a formed frame and buffers that hold anything.
     pub fn scan(&mut self, rng: &mut Rng, state: &[u8]) -> Buffers {
         let blocks = self.table.chain.len();
         let mut frame = Vec::with_capacity(ENTRY_BYTES * blocks);
-        let start = self.clock.clone();
-        for _ in 0..blocks {
-            if self.together {
-                self.clock = start.clone();
-            }
-            frame.extend_from_slice(&entry(rng, self.drive, &mut self.clock));
+        let (records, _) = state.as_chunks();
+        for (clock, record) in self.clocks.iter_mut().zip(records) {
+            clock.follow(rng, record);
+            frame.extend_from_slice(&entry(rng, self.drive, clock));
         }
         let spare = rng.pick(&[0, 0, 0, 1, EVENT_BYTES, 100]);
         Buffers {

@@ -1,9 +1,10 @@
-//! What the accepted scans of a test did: events by the kind of block, passes, pieces and steps.
+//! What the accepted scans of a test did: events by the kind of block, readings out of step, passes, pieces and steps.
 
+use crate::readings::{OutOfStep, Readings};
 use crate::records::Has;
 use crate::scans::Buffers;
 use crate::tables::Table;
-use lane::{Event, EventKind, ReportEntry};
+use lane::{Entry, Event, EventKind, Record, ReportEntry};
 use std::fmt;
 
 /// Counts over all calls of all accepted scans.
@@ -15,22 +16,25 @@ pub struct Seen {
     events: [[u64; 6]; 15],
     /// Failed by time-out, by the kind of block.
     time_outs: [u64; 15],
+    out_of_step: OutOfStep,
     passes: [u64; 7],
     pieces: [u64; 5],
     steps: [u64; 7],
 }
 
 impl Seen {
-    /// Counts what an accepted scan left: its report, and so many events.
-    pub fn add(&mut self, table: &Table, after: &Buffers, events: u32) {
+    /// Counts what an accepted scan was given, and left: its report, and so many events.
+    pub fn add(&mut self, table: &Table, given: &Buffers, after: &Buffers, events: u32) {
         self.scans += 1;
-        for bytes in after.report.as_chunks().0 {
-            let entry = ReportEntry::decode(bytes).expect("a report entry in form");
-            assert!(entry.passes <= 6, "{} passes", entry.passes);
-            self.calls += 1;
-            self.passes[usize::from(entry.passes)] += 1;
-            self.pieces[usize::from(entry.pieces_used)] += 1;
-            self.steps[usize::from(entry.step.number())] += 1;
+        let (records, _) = given.state.as_chunks();
+        let (entries, _) = given.frame.as_chunks();
+        let (reports, _) = after.report.as_chunks();
+        let given = records.iter().zip(entries);
+        for ((slot, (record, entry)), report) in table.chain.iter().zip(given).zip(reports) {
+            let record = Record::decode(record).expect("a record in form");
+            let entry = Entry::decode(entry).expect("a frame entry in form");
+            let report = ReportEntry::decode(report).expect("a report entry in form");
+            self.add_call(table.kind(*slot), &record, &entry, &report);
         }
         for event in events_of(after, events) {
             let slot = table.chain[event.position.index()];
@@ -40,8 +44,21 @@ impl Seen {
         }
     }
 
-    /// Fails unless each event was seen on each kind of block that can have it, and all numbers of
-    /// passes, of pieces and all steps.
+    /// Counts one call: from this record with this entry, and what was reported of it.
+    fn add_call(&mut self, kind: u8, record: &Record, entry: &Entry, report: &ReportEntry) {
+        assert!(report.passes <= 6, "{} passes", report.passes);
+        self.calls += 1;
+        self.passes[usize::from(report.passes)] += 1;
+        self.pieces[usize::from(report.pieces_used)] += 1;
+        self.steps[usize::from(report.step.number())] += 1;
+        if report.pieces_used > 0 {
+            let readings = Readings::new(kind, record, entry, report.pieces_used);
+            self.out_of_step.add(kind, &readings);
+        }
+    }
+
+    /// Fails unless each event was seen on each kind of block that can have it, all numbers of
+    /// passes, of pieces and all steps, and readings out of step often.
     pub fn expect_all(&self) {
         for kind in 1..=14 {
             let has = Has::of(kind);
@@ -57,6 +74,7 @@ impl Seen {
                 "kind {kind}: {time_outs} time-outs\n{self}"
             );
         }
+        self.out_of_step.expect_often();
         assert!(self.passes[1..].iter().all(|&count| count > 0), "{self}");
         assert!(self.pieces.iter().all(|&count| count > 0), "{self}");
         assert!(self.steps.iter().all(|&count| count > 0), "{self}");
@@ -85,6 +103,7 @@ impl fmt::Display for Seen {
                 "{kind:>6}{start:>10}{done:>10}{failed:>10}{time_outs:>11}{aborted:>10}{withdrawn:>10}"
             )?;
         }
+        write!(f, "{}", self.out_of_step)?;
         writeln!(f, "  calls of 1 to 6 passes: {:?}", &self.passes[1..])?;
         writeln!(f, "  calls of 0 to 4 pieces: {:?}", self.pieces)?;
         writeln!(f, "  calls left at step 0 to 6: {:?}", self.steps)

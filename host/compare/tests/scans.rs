@@ -147,7 +147,7 @@ fn run(name: &str, seed: u64, lists: u64, from_fresh: bool) {
         for _ in 0..rng.range(1, 16) {
             let (given, after, found) = step(case, &mut rng, &mut list, &state, &mut tally);
             let Ok(events) = found else { continue };
-            seen.add(&list.table, &after, events);
+            seen.add(&list.table, &given, &after, events);
             // A scan of a changed state is no part of the list.
             if given.state == state {
                 if from_fresh {

@@ -143,7 +143,8 @@ pub struct Record {
     pub time_out: u32,
     /// The job's last clock reading: none is made once the job has ended or is aborting.
     pub last_reading: u32,
-    /// The time from the start to the last reading, in microseconds, at most 2^32.
+    /// The time counted from the start on, in microseconds, at most 2^32. A reading that is 2^31 or more after
+    /// the last one, modulo 2^32, is out of step: it counts nothing, and the last reading stays.
     pub elapsed: u64,
 }
 

@@ -25,10 +25,17 @@ pub const MAX_ELAPSED: u64 = 4_294_967_296;
 /// "Frame entry, 56 bytes a position ... from 24, four pieces of 8"
 pub const MAX_PIECES: usize = 4;
 
+/// Document 02, 1/14: "A difference of 2,147,483,648 or more shall count as 0,
+/// for the time limit and for elapsed, and the last reading then stays."
+pub const OUT_OF_STEP: u32 = 2_147_483_648;
+
 /// "Time from one reading to the next is their difference modulo
 /// 4,294,967,296."
-pub fn time_between(earlier: u32, later: u32) -> u32 {
-    later.wrapping_sub(earlier)
+///
+/// `None` is a reading out of step: it counts as 0, and isn't added.
+pub fn time_between(earlier: u32, later: u32) -> Option<u32> {
+    let difference = later.wrapping_sub(earlier);
+    (difference < OUT_OF_STEP).then_some(difference)
 }
 
 /// "State record, 32 bytes a position"
@@ -107,11 +114,14 @@ impl Record {
     }
 
     /// "Elapsed adds these and is held at 4,294,967,296; each reading added
-    /// becomes the last reading."
+    /// becomes the last reading." Document 02, 1/14, on one out of step: "the
+    /// last reading then stays."
     fn add_reading(&mut self, reading: u32) {
-        let time = u64::from(time_between(self.last_reading, reading));
-        self.elapsed = self.elapsed.saturating_add(time).min(MAX_ELAPSED);
-        self.last_reading = reading;
+        if let Some(time) = time_between(self.last_reading, reading) {
+            let elapsed = self.elapsed.saturating_add(u64::from(time));
+            self.elapsed = elapsed.min(MAX_ELAPSED);
+            self.last_reading = reading;
+        }
     }
 
     /// "Dormant is all zero; Executing and Aborting have busy only; Done done
@@ -541,10 +551,12 @@ impl Call<'_> {
     }
 
     /// "past the time limit (piece clock after call clock by more than the
-    /// limit)"; "limit or time-out 0 is none."
+    /// limit)"; "limit or time-out 0 is none." A piece out of step with the
+    /// call clock counts as 0 after it.
     fn is_past_time_limit(&self, piece: &Piece) -> bool {
         let limit = self.time_limit();
-        limit != 0 && time_between(self.entry.clock, piece.clock) > limit
+        let time = time_between(self.entry.clock, piece.clock).unwrap_or(0);
+        limit != 0 && time > limit
     }
 
     /// "elapsed greater than the time-out"; "limit or time-out 0 is none."

@@ -2,7 +2,8 @@
 //! their values, and the rules beside them.
 
 use reference::machine::{
-    call, Entry, Event, Inputs, Piece, Record, Report, ABORTED, BUSY, DONE, ERROR,
+    call, time_between, Entry, Event, Inputs, Piece, Record, Report, ABORTED, BUSY, DONE, ERROR,
+    OUT_OF_STEP,
 };
 
 const POSITION: u8 = 1;
@@ -386,19 +387,299 @@ fn past_the_time_out_ends_the_pieces() {
     }
 }
 
+/// The kinds with a time limit, and those with a time-out.
+const TI_KINDS: [u8; 7] = [2, 4, 6, 8, 10, 12, 14];
+const TO_KINDS: [u8; 6] = [3, 4, 7, 8, 11, 12];
+
+/// The last difference that counts.
+const GREATEST: u32 = 2_147_483_647;
+
+/// Clocks on both sides of the counter's turn and of its middle.
+const CLOCKS: [u32; 6] = [
+    0,
+    1000,
+    2_147_483_647,
+    2_147_483_648,
+    4_294_967_290,
+    u32::MAX,
+];
+
+fn calls(clock: u32) -> Entry {
+    Entry {
+        clock,
+        ..pieces(&[])
+    }
+}
+
+/// Calls without a piece at these clocks; elapsed and last reading after each.
+fn times(kind: u8, time_out: u32, clocks: &[u32]) -> (Record, Vec<(u64, u32)>) {
+    let mut record = Record::fresh();
+    let mut times = vec![];
+    for &clock in clocks {
+        let entry = Entry {
+            time_out,
+            ..calls(clock)
+        };
+        step(kind, &mut record, &entry);
+        times.push((record.elapsed, record.last_reading));
+    }
+    (record, times)
+}
+
+#[test]
+fn differences_that_count() {
+    assert_eq!(OUT_OF_STEP, 2_147_483_648);
+    for clock in CLOCKS {
+        for time in [0, 1, 10, GREATEST - 1, GREATEST] {
+            assert_eq!(time_between(clock, clock.wrapping_add(time)), Some(time));
+        }
+        for time in [OUT_OF_STEP, OUT_OF_STEP + 1, u32::MAX - 10, u32::MAX] {
+            assert_eq!(time_between(clock, clock.wrapping_add(time)), None);
+        }
+    }
+    assert_eq!(time_between(4_294_967_290, 4), Some(10));
+    assert_eq!(time_between(4, 4_294_967_290), None);
+}
+
+/// A first piece so far after the call clock, then one a microsecond after it;
+/// pieces used, and what the call leaves.
+fn two_pieces(kind: u8, limit: u32, clock: u32, time: u32) -> (u8, Record) {
+    let entry = Entry {
+        time_limit: limit,
+        clock,
+        ..pieces(&[
+            working(clock.wrapping_add(time)),
+            working(clock.wrapping_add(1)),
+        ])
+    };
+    let (record, shown, _) = first(kind, &entry);
+    (shown.pieces, record)
+}
+
+#[test]
+fn limit_at_the_last_difference_that_counts() {
+    for kind in TI_KINDS {
+        for clock in CLOCKS {
+            // 2,147,483,647 counts: past every smaller limit.
+            for limit in [1, 50, GREATEST - 1] {
+                let (used, record) = two_pieces(kind, limit, clock, GREATEST);
+                assert_eq!(used, 1);
+                assert_eq!(record.elapsed, u64::from(GREATEST));
+                assert_eq!(record.last_reading, clock.wrapping_add(GREATEST));
+            }
+            // Past none of these, so the second piece is used too; it is out of
+            // step with the first.
+            for limit in [0, GREATEST, OUT_OF_STEP, u32::MAX] {
+                let (used, record) = two_pieces(kind, limit, clock, GREATEST);
+                assert_eq!(used, 2);
+                assert_eq!(record.elapsed, u64::from(GREATEST));
+                assert_eq!(record.last_reading, clock.wrapping_add(GREATEST));
+            }
+        }
+    }
+}
+
+#[test]
+fn limit_with_a_piece_out_of_step() {
+    for kind in TI_KINDS {
+        for clock in CLOCKS {
+            for time in [OUT_OF_STEP, OUT_OF_STEP + 1, u32::MAX - 2, u32::MAX] {
+                for limit in [0, 1, 50, GREATEST, OUT_OF_STEP, u32::MAX] {
+                    let (used, record) = two_pieces(kind, limit, clock, time);
+                    assert_eq!(used, 2);
+                    assert_eq!(record.elapsed, 1);
+                    assert_eq!(record.last_reading, clock.wrapping_add(1));
+                }
+            }
+        }
+    }
+}
+
+/// The limit is from the call clock, even one that is out of step: last reading
+/// 100, call clock 90, limit 50.
+#[test]
+fn limit_from_a_call_clock_out_of_step() {
+    for kind in TI_KINDS {
+        let limited = Entry {
+            time_limit: 50,
+            ..calls(100)
+        };
+        let mut record = first(kind, &limited).0;
+        let early = Entry {
+            time_limit: 50,
+            clock: 90,
+            ..pieces(&[working(140), working(141), working(142)])
+        };
+        let (shown, _) = step(kind, &mut record, &early);
+        assert_eq!(shown, report(BUSY, 2, 1, Record::EXECUTING, 0, 0));
+        assert_eq!((record.elapsed, record.last_reading), (41, 141));
+    }
+}
+
+#[test]
+fn time_out_at_the_last_difference_that_counts() {
+    for kind in TO_KINDS {
+        for clock in CLOCKS {
+            let end = clock.wrapping_add(GREATEST);
+            let (record, shown, _) = first(kind, &time_out(GREATEST - 1, clock, working(end)));
+            assert_eq!(shown, report(ERROR, 1, 3, Record::ERROR, 1, 0));
+            assert_eq!(record.elapsed, u64::from(GREATEST));
+            let (record, shown, _) = first(kind, &time_out(GREATEST, clock, working(end)));
+            assert_eq!(shown, report(BUSY, 1, 2, Record::EXECUTING, 0, 0));
+            assert_eq!(record.elapsed, u64::from(GREATEST));
+            assert_eq!(record.last_reading, end);
+        }
+    }
+}
+
+#[test]
+fn time_out_with_a_piece_out_of_step() {
+    for kind in TO_KINDS {
+        for clock in CLOCKS {
+            for time in [OUT_OF_STEP, OUT_OF_STEP + 1, u32::MAX - 2, u32::MAX] {
+                let end = clock.wrapping_add(time);
+                let (record, shown, _) = first(kind, &time_out(1, clock, working(end)));
+                assert_eq!(shown, report(BUSY, 1, 2, Record::EXECUTING, 0, 0));
+                assert_eq!((record.elapsed, record.last_reading), (0, clock));
+                // Its reply is judged as ever.
+                let (_, shown, _) = first(kind, &time_out(1, clock, complete(end)));
+                assert_eq!(shown, report(DONE, 1, 3, Record::DONE, 0, 0));
+                let (_, shown, _) = first(kind, &time_out(1, clock, piece(2, 5, end)));
+                assert_eq!(shown, report(ERROR, 1, 3, Record::ERROR, 5, 0));
+            }
+        }
+    }
+}
+
+/// "A gap of that length between calls is now taken as none".
+#[test]
+fn call_clocks_around_the_last_difference_that_counts() {
+    for kind in TO_KINDS {
+        for clock in CLOCKS {
+            let at = |time: u32| clock.wrapping_add(time);
+            let (record, seen) = times(kind, GREATEST - 1, &[clock, at(GREATEST)]);
+            assert_eq!(seen[1], (u64::from(GREATEST), at(GREATEST)));
+            assert_eq!((record.step, record.code), (Record::ERROR, 1));
+            let (record, seen) = times(kind, 1, &[clock, at(OUT_OF_STEP), at(1)]);
+            assert_eq!(seen[1..], [(0, clock), (1, at(1))]);
+            assert_eq!(record.step, Record::EXECUTING);
+        }
+    }
+}
+
+/// "the last reading then stays": a piece 10 before the call clock, and the
+/// next call 5 after it.
+#[test]
+fn last_reading_stays() {
+    for kind in 1..=14 {
+        let (mut record, shown, _) = first(kind, &time_out(100, 100, working(90)));
+        assert_eq!(shown, report(BUSY, 1, 2, Record::EXECUTING, 0, 0));
+        assert_eq!((record.elapsed, record.last_reading), (0, 100));
+        let next = Entry {
+            time_out: 100,
+            ..calls(105)
+        };
+        step(kind, &mut record, &next);
+        assert_eq!((record.elapsed, record.last_reading), (5, 105));
+    }
+}
+
+/// A reading that comes back is counted from the one that stayed.
+#[test]
+fn readings_after_a_gap_that_counts_as_none() {
+    let clocks = [0, 2_147_483_648, 2_147_483_848, 50, 101];
+    let expected = [(0, 0), (0, 0), (0, 0), (50, 50), (101, 101)];
+    for kind in 1..=14 {
+        let (record, seen) = times(kind, 0, &clocks);
+        assert_eq!(seen, expected);
+        assert_eq!(record.step, Record::EXECUTING);
+    }
+    for kind in TO_KINDS {
+        let (record, seen) = times(kind, 100, &clocks);
+        assert_eq!(seen, expected);
+        assert_eq!((record.step, record.code), (Record::ERROR, 1));
+        assert_eq!(times(kind, 101, &clocks).0.step, Record::EXECUTING);
+    }
+}
+
+/// In step across the counter's turn, and out of step back across it.
+#[test]
+fn out_of_step_across_the_turn() {
+    for kind in 1..=14 {
+        let clocks = [4_294_967_290, 4, 4_294_967_295, 3, 6];
+        let expected = [(0, 4_294_967_290), (10, 4), (10, 4), (10, 4), (12, 6)];
+        assert_eq!(times(kind, 12, &clocks).1, expected);
+    }
+    for kind in TI_KINDS {
+        let entry = Entry {
+            time_limit: 10,
+            clock: 4_294_967_290,
+            ..pieces(&[working(4_294_967_289), working(4), working(5), working(6)])
+        };
+        let (record, shown, _) = first(kind, &entry);
+        assert_eq!(shown, report(BUSY, 3, 2, Record::EXECUTING, 0, 0));
+        assert_eq!((record.elapsed, record.last_reading), (11, 5));
+    }
+}
+
+/// "Last reading = call clock, elapsed 0": a start has no
+/// reading to be out of step with.
+#[test]
+fn a_start_takes_its_call_clock() {
+    let mut record = first(3, &time_out(100, 1000, working(1050))).0;
+    assert_eq!((record.elapsed, record.last_reading), (50, 1050));
+    step(
+        3,
+        &mut record,
+        &stopped(time_out(100, 1050, complete(1050))),
+    );
+    assert_eq!((record.step, record.reset_request), (Record::DONE, 1));
+    let (shown, events) = step(3, &mut record, &time_out(100, 990, working(995)));
+    assert_eq!(shown, report(BUSY, 1, 4, Record::EXECUTING, 0, 0));
+    assert_eq!(events, [start(0)]);
+    assert_eq!((record.elapsed, record.last_reading), (5, 995));
+}
+
 #[test]
 fn elapsed_is_held() {
-    let mut record = Record::fresh();
-    let mut clock = 0u32;
-    for expected in [0, 4_294_967_295, 4_294_967_296, 4_294_967_296] {
-        let entry = Entry {
-            clock,
-            ..pieces(&[])
-        };
-        step(1, &mut record, &entry);
-        assert_eq!(record.elapsed, expected);
-        assert_eq!(record.last_reading, clock);
-        clock = clock.wrapping_sub(1);
+    for kind in 1..=14 {
+        // Twice the last difference that counts, and 1, 1, 1 and 7 after that.
+        let clocks = [0, GREATEST, 4_294_967_294, u32::MAX, 0, 1, 8];
+        let (record, seen) = times(kind, 0, &clocks);
+        let held = 4_294_967_296;
+        let elapsed = [
+            0,
+            2_147_483_647,
+            4_294_967_294,
+            4_294_967_295,
+            held,
+            held,
+            held,
+        ];
+        assert!(seen.iter().copied().eq(elapsed.into_iter().zip(clocks)));
+        assert_eq!(record.step, Record::EXECUTING);
+    }
+}
+
+#[test]
+fn greatest_time_out() {
+    let clocks = [0, GREATEST, 4_294_967_294, u32::MAX, 0];
+    for kind in TO_KINDS {
+        let (record, seen) = times(kind, u32::MAX, &clocks[..4]);
+        assert_eq!(seen[3], (4_294_967_295, u32::MAX));
+        assert_eq!(record.step, Record::EXECUTING);
+        let (record, seen) = times(kind, u32::MAX, &clocks);
+        assert_eq!(seen[4], (4_294_967_296, 0));
+        assert_eq!((record.step, record.code), (Record::ERROR, 1));
+    }
+}
+
+/// Each reading a microsecond before the one before: no time at all.
+#[test]
+fn running_back_counts_as_none() {
+    for kind in 1..=14 {
+        let seen = times(kind, 1, &[3, 2, 1, 0, u32::MAX]).1;
+        assert_eq!(seen, [(0, 3); 5]);
     }
 }
 

@@ -200,6 +200,24 @@ fn c7_to_c12() {
     assert_eq!(last(9, &[working, withdrawn]), dormant);
 }
 
+/// Document 02, 1/14, on bytes: elapsed and last reading after each call.
+#[test]
+fn readings_out_of_step() {
+    for (kind, time_out) in [(3, 100), (11, 100), (1, 0), (14, 0)] {
+        let mut engine = Engine::new(one(kind));
+        let clocks = [0, 2_147_483_648, 2_147_483_848, 50, 101];
+        for (clock, time) in clocks.into_iter().zip([0u8, 0, 0, 50, 101]) {
+            let mut working = entry(true, 0, &[]);
+            working.clock = clock;
+            working.time_out = time_out;
+            let failed = time_out > 0 && time == 101;
+            assert_eq!(engine.flags(&[working]), [if failed { 4 } else { BUSY }]);
+            assert_eq!(engine.state[20..24], [time, 0, 0, 0]);
+            assert_eq!(engine.state[24..32], [time, 0, 0, 0, 0, 0, 0, 0]);
+        }
+    }
+}
+
 #[test]
 fn no_blocks() {
     let mut image = vec![1, 3, 0, 0];

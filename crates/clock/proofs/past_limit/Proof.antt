@@ -1,11 +1,12 @@
 -- `clock::past_limit` meets its contract: what its two callees ensure, put together.
 use borrow.Author.Needs.{needs}
-use Rattle.clock.specs.Clock.{pastLimit}
+use mathlib.Core.Path.{ap, _∙_}
+use Rattle.clock.specs.Clock.{past, pastLimit}
 use Rattle.clock.proofs.past_limit.Statement.{statement}
 use Rattle.clock.proofs.past_limit.Tie as tie
 
-time-since-requires : tie.Need-time-since-requires
-time-since-requires c κs = search needs
+counted-time-requires : tie.Need-counted-time-requires
+counted-time-requires c κs = search needs
 
 cast-is-past : tie.Need-cast-is-past
 cast-is-past c = search needs
@@ -15,7 +16,7 @@ is-past-requires c κs = search needs
 
 returns : tie.Need-returns
 unfolding pastLimit
-returns c = rw (← c .before .time-since .ensures) (c .is-past .ensures)
+returns c = c .is-past .ensures ∙ ap (past (c .before .before .args .limit)) (c .before .counted-time .ensures)
 
 pub past-limit-spec : {M : Type 1} → statement M
-past-limit-spec = tie.close (tie.spec time-since-requires cast-is-past is-past-requires returns)
+past-limit-spec = tie.close (tie.spec counted-time-requires cast-is-past is-past-requires returns)
