@@ -26,7 +26,7 @@ use Rattle.block.specs.Resetting.{resetting}
 use Rattle.block.specs.Rules.{rule}
 use Rattle.block.specs.Call.{callWithin, callOf}
 use Rattle.block.specs.Turns.{hasStart}
-use Rattle.block.specs.History.{tickAll, clocksOf, timerOf, takenTimeOut, timeOutInForce}
+use Rattle.block.specs.History.{tickAll, clocksOf, timerOf, inStep, takenTimeOut, timeOutInForce}
 use Rattle.engine.specs.Verify.{stateSound, frameForm, verifyOf}
 use Rattle.engine.specs.Inputs.{inputsOf}
 use Rattle.engine.specs.Serve.{callIn, served, servedTo}
@@ -54,7 +54,7 @@ unfolding image buffer starts isDone damaged fails rests isLate isAborted works 
     encodeEvent decodeEvents decodeEvent eventsAt number bytes
     sound zeroed flagsFit codeSound requestSound stepSound timesSound entryFits piecesFit
     callOf callWithin rule dormant executing judge usePieces ended aborting resetting
-    timerOf timeOutInForce takenTimeOut tickAll clocksOf hasStart tick since past pastLimit pastTimeOut
+    timerOf inStep timeOutInForce takenTimeOut tickAll clocksOf hasStart tick since past pastLimit pastTimeOut
     isKind isEdge canAbort hasAbort hasTimeLimit hasTimeOut isContinuous
 computed = (
   record { made = refl; answers = refl; journal = refl; passes = refl; wired = refl; state = refl; step = refl; elapsed = refl; inForce = refl },
@@ -73,7 +73,7 @@ computed = (
     state = refl;
   },
   record { answers = refl; journal = refl; beacon = refl; passes = refl; report = refl; events = refl },
-  record { answers = refl; timers = refl; step = refl; elapsed = refl; inForce = refl; journal = refl },
+  record { answers = refl; readings = refl; timers = refl; step = refl; elapsed = refl; inForce = refl; journal = refl },
 )
 
 pub run-example : RunExample

@@ -10,7 +10,7 @@ use Rattle.layout.specs.Buffer.{recordLength}
 use Rattle.layout.specs.EntryLayout.{encodeEntry}
 use Rattle.block.specs.Record.{Executing, TimedOut}
 use Rattle.block.specs.Event.{Start, Failed}
-use Rattle.block.specs.History.{timerOf, timeOutInForce}
+use Rattle.block.specs.History.{timerOf, inStep, timeOutInForce}
 use Rattle.block.specs.TimeExamples.{timer}
 use Rattle.engine.specs.Serve.{recordIn}
 use Rattle.run.specs.Scans.{Scans, none, _andThen_, Given, stateAfter, journalOf, historyOf}
@@ -37,6 +37,8 @@ scans = running andThen calledAt 101
 -- theorem counted-time-example, proofs/RunExamples.antt
 pub record CountedTimeExample : Type 0 where
   pub answers : answersOf image buffer scans ≡ value 1 ∷ value 0 ∷ value 0 ∷ value 0 ∷ value 1 ∷ []
+  -- the readings that are in step
+  pub readings : inStep 0 (0 ∷ 2147483648 ∷ 2147483848 ∷ 50 ∷ 101 ∷ []) ≡ 0 ∷ 50 ∷ 101 ∷ []
   -- last reading and elapsed after each scan
   pub timers : timersOf (historyOf image buffer 0 scans) ≡ timer 0 0 ∷ timer 0 0 ∷ timer 0 0 ∷ timer 50 50 ∷ timer 101 101 ∷ []
   -- in Executing after the fourth, and in time as the promise counts it
