@@ -62,7 +62,7 @@ static const struct block blocks[LANES] = {
     {5, LANE_KIND_ETRIG_TO, 1, 2, LANE_WIRE_DONE, "LANEO"},
     {1, LANE_KIND_ETRIG_A_TO, 6, 0, 0, "LANE1"},
     {6, LANE_KIND_ETRIG_A, 4, 0, 0, "LANEI"},
-    {4, LANE_KIND_LCON, 0, 6, LANE_WIRE_BUSY, "GATE"},
+    {4, LANE_KIND_LCON, 0, 6, LANE_WIRE_BUSY, "OUT_1"},
 };
 
 /* What one lane is given in one scan. */
@@ -84,7 +84,7 @@ struct entry {
 
 static const struct entry story[SCANS][LANES] = {
     /*   LANE0                            LANEO                              LANE1
-         LANEI                            GATE                                                     */
+         LANEI                            OUT_1                                                    */
     {REPLIES(START, WORKING, 7001, 0), SILENT(0, 7001, 30000), SILENT(START, 7101, 90000),
      REPLIES(START, WORKING, 7201, 0), REPLIES(0, WORKING, 7201, 0)},
     /* Execute of LANE0 drops. */
@@ -185,7 +185,7 @@ static void print_story(void)
            "LANEO  starts when LANE0 is done (a wire); its reply comes after the time-out.\n"
            "LANE1  nothing replies for three scans, then a reply within the time-out.\n"
            "LANEI  is aborted, and its devices need until the next scan for that.\n"
-           "GATE   is enabled while LANEI is busy (a wire): the abort withdraws its job.\n\n");
+           "OUT_1  is enabled while LANEI is busy (a wire): the abort withdraws its job.\n\n");
 }
 
 static void print_legend(void)
@@ -193,7 +193,7 @@ static void print_legend(void)
     printf("\nS, A: the start and the abort input as the call read it, from the frame or\n"
            "  from a wire; - the block has no abort input.\n"
            "reply: what its devices answered; aborting and aborted: to an abort or,\n"
-           "  for GATE, to the withdrawal of its job; - nothing.\n"
+           "  for OUT_1, to the withdrawal of its job; - nothing.\n"
            "BDEA: the flags busy, done, error, aborted.\n"
            "pass: passes of the call, the stopping one included; used: replies taken.\n"
            "elapsed/time-out: microseconds counted from the job's start to its last reading\n"
@@ -287,6 +287,14 @@ static uint64_t find(const struct box *box, const char *name)
     return lane_find(box->image, sizeof box->image, tag, sizeof tag);
 }
 
+/* A name that no block has is refused, and so is one that is no tag. */
+static void find_none(const struct box *box, const char *name, uint32_t number)
+{
+    uint64_t answer = find(box, name);
+    expect(lane_refusal_number(answer) == number, "the refusal of a name that is not found");
+    print_refusal(stdout, name, answer);
+}
+
 /* Every lane is found at its place in the chain, however much its tag looks like another. */
 static void find_lanes(const struct box *box)
 {
@@ -296,9 +304,9 @@ static void find_lanes(const struct box *box)
         expect(lane_value(answer) == i + 1, "position of a tag");
         expect(lane_slot_at(box->image, i + 1) == blocks[i].slot, "slot of a position");
     }
-    uint64_t answer = find(box, "LANE2");
-    expect(lane_refusal_number(answer) == LANE_REFUSED_LOOKUP_ABSENT, "LANE2 is not in the table");
-    print_refusal(stdout, "LANE2", answer);
+    find_none(box, "LANE2", LANE_REFUSED_LOOKUP_ABSENT);
+    find_none(box, "LANE_1", LANE_REFUSED_LOOKUP_ABSENT);
+    find_none(box, "_LANE1", LANE_REFUSED_LOOKUP_FORM);
 }
 
 /* A frame with one entry out of form is turned back, and nothing is written. */

@@ -76,7 +76,7 @@ enum {
     LANE_AT_SLOT_START_CODE = 3, /* 1  LANE_WIRE_.., 0 where there is no wire */
     LANE_AT_SLOT_ABORT_WIRE = 4, /* 1  the same of the abort input; 0 on kinds without A */
     LANE_AT_SLOT_ABORT_CODE = 5, /* 1  LANE_WIRE_.., 0 where there is no wire */
-    LANE_AT_SLOT_TAG = 8         /* 8  one or more of A-Z and 0-9, then spaces */
+    LANE_AT_SLOT_TAG = 8         /* 8  one or more of A-Z, 0-9 and, except first, underscore; then spaces */
 };
 
 /* A state record, at LANE_RECORD_BYTES * (position - 1). lane_fresh makes it, lane_scan changes it, and
@@ -319,7 +319,8 @@ static inline const char *lane_refusal_text(uint64_t answer)
     case LANE_REFUSED_CHAIN_REPEATED: return "its next slot was already met on the chain";
     case LANE_REFUSED_KIND: return "its kind is not 1 to 14, or its bytes 6-7 are not zero";
     case LANE_REFUSED_TAG_FORM:
-        return "its tag is not one or more of A-Z and 0-9, then spaces to eight bytes";
+        return "its tag is not one or more of A-Z, 0-9 and, except first, underscore, then spaces to "
+               "eight bytes";
     case LANE_REFUSED_TAG_REPEATED: return "an earlier block of the chain has this tag";
     case LANE_REFUSED_WIRE:
         return "a wire of it comes from a slot off the chain, has a code out of form, or is an abort "
@@ -331,7 +332,9 @@ static inline const char *lane_refusal_text(uint64_t answer)
     case LANE_REFUSED_FRAME_FORM: return "its frame entry is out of form";
     case LANE_REFUSED_REPORT_LENGTH: return "the report's length is not 12 bytes a block";
     case LANE_REFUSED_JOURNAL_LENGTH: return "the journal is shorter than 16 bytes a block";
-    case LANE_REFUSED_LOOKUP_FORM: return "the tag to find is not eight bytes in the form of a tag";
+    case LANE_REFUSED_LOOKUP_FORM:
+        return "the tag to find is not one or more of A-Z, 0-9 and, except first, underscore, then spaces to "
+               "eight bytes";
     case LANE_REFUSED_LOOKUP_ABSENT: return "no block of the table has this tag";
     default: return "no check has this number";
     }
@@ -433,7 +436,8 @@ static inline void lane_put64(uint8_t *to, uint64_t value)
 }
 
 /* Writes a name as a tag, eight bytes: the name, then spaces. Answers 1, or 0 if the name is longer than that;
- * the tag is then all spaces, which the engine refuses, and never the front of the name. */
+ * the tag is then all spaces, which the engine refuses, and never the front of the name. Whether the characters
+ * are those of a tag only the engine says, by refusals 8 and 50. */
 static inline int lane_put_tag(uint8_t *tag, const char *name)
 {
     size_t length = strlen(name);

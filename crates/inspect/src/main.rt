@@ -1,4 +1,5 @@
-// Prints what check, find and show answer: two lanes with look-alike tags, and an image for each refusal of the table and of lookup.
+// Prints what check, find and show answer: two lanes with look-alike tags, an image for each refusal of the table and of lookup, and three
+// lanes of which two are told apart by an underscore alone.
 ghost use mathlib.Core.Path.{_≡_};
 ghost use Prim.Native.Nat.{_<_};
 ghost use lib.ListN.{length};
@@ -17,6 +18,14 @@ fn two_lanes() -> [u8; TWO_SLOTS]
     ensures { λ r. ⌜ imageLength 2 ≡ length r ⌝ }
 {
     *b"\x01\x02\x01\0\x01\x02\0\0\0\0\0\0LANE0   \x01\0\0\0\0\0\0\0LANEO   "
+}
+
+// Bytes of an image of three slots.
+const THREE_SLOTS: usize = HEADER_LENGTH + 3 * SLOT_LENGTH;
+
+// Three blocks of kind 1, in this order: IN_1 in slot 3, IN1 in slot 1, IN_2 in slot 2.
+fn three_lanes() -> [u8; THREE_SLOTS] {
+    *b"\x01\x03\x03\0\x01\x02\0\0\0\0\0\0IN1     \x01\0\0\0\0\0\0\0IN_2    \x01\x01\0\0\0\0\0\0IN_1    "
 }
 
 fn print(text: &[u8]) {
@@ -91,10 +100,9 @@ fn print_show(image: &[u8], tag: &[u8]) {
     print(b"\n");
 }
 
-fn look_up(tag: &[u8]) {
-    let image = two_lanes();
-    print_find(&image, tag);
-    print_show(&image, tag);
+fn look_up(image: &[u8], tag: &[u8]) {
+    print_find(image, tag);
+    print_show(image, tag);
 }
 
 // The two lanes with one byte changed.
@@ -122,21 +130,34 @@ fn check_chains() {
 fn check_records() {
     check_changed(b"kind 0", 4, 0);
     check_changed(b"small letter in a tag", 28, b'l');
+    check_changed(b"underscore first in a tag", 28, b'_');
     check_changed(b"tag of an earlier block", 32, b'0');
     check_changed(b"wire to no slot", 6, 9);
     check_changed(b"abort code without abort", 25, 1);
     check_changed(b"spare slot not zero", 2, 2);
 }
 
+// IN_1, IN1 and IN_2, each found in its own slot; a tag may end in an underscore and not begin with one.
+fn look_up_underscores() {
+    let image = three_lanes();
+    print_check(b"three lanes", &image);
+    look_up(&image, b"IN_1    ");
+    look_up(&image, b"IN1     ");
+    look_up(&image, b"IN_2    ");
+    look_up(&image, b"IN_     ");
+    look_up(&image, b"_IN1    ");
+}
+
 fn main() {
     let image = two_lanes();
     print_check(b"two lanes", &image);
-    look_up(b"LANE0   ");
-    look_up(b"LANEO   ");
+    look_up(&image, b"LANE0   ");
+    look_up(&image, b"LANEO   ");
     check_headers();
     check_chains();
     check_records();
-    look_up(b"lane0   ");
-    look_up(b"LANE0");
-    look_up(b"LANE1   ");
+    look_up(&image, b"lane0   ");
+    look_up(&image, b"LANE0");
+    look_up(&image, b"LANE1   ");
+    look_up_underscores();
 }

@@ -3,6 +3,7 @@ pub mod PositionLaws
 pub mod Walk
 pub mod ChainLaws
 pub mod TagLaws
+pub mod TagFormLaws
 pub mod RecordLaws
 pub mod SpareLaws
 pub mod CheckLaws

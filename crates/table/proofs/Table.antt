@@ -18,7 +18,7 @@ use Rattle.table.specs.Chain.{slotsOf, chainOf, chainVerdict}
 use Rattle.table.specs.Record.{tagAmong, recordCheck, recordsFrom, recordsCheck}
 use Rattle.table.specs.Spare.{spareOk, sparesFrom, sparesCheck}
 use Rattle.table.specs.Check.{verdictOf, checkOf}
-use Rattle.table.specs.Blocks.{blocksOf}
+use Rattle.table.specs.Blocks.{blocksOf, blockAt}
 use Rattle.table.specs.Table.{Linked, ended, link, Distinct, RecordOk, Table, BlocksOk, TableAccepted, AcceptedTable, AcceptedBlocksOk}
 use Rattle.table.specs.declared.place.Place.{Place}
 use Rattle.table.specs.declared.place.Place.the-variants.{Header, Slot}
@@ -27,6 +27,7 @@ use Rattle.table.specs.declared.check.Checked.the-variants.{Blocks}
 use Rattle.table.proofs.Logic.{not-failed, require-this, require-below}
 use Rattle.membership.proofs.AmongLaws.{not-among}
 use Rattle.table.proofs.TagLaws.{same-equal}
+use Rattle.table.proofs.TagFormLaws.{form-means}
 use Rattle.table.proofs.Walk.{walk-ends, walk-onward, walk-by-rules}
 use Rattle.table.proofs.AcceptedLaws.{
   accepted-header,
@@ -173,7 +174,7 @@ module _ (image : List ℕ) (ok : checkOf image ≡ Blocks (length (blocksOf ima
     few = accepted-few image _ ok;
     each = λ i l. record {
       kind = accepted-kind image _ ok i l;
-      tag = accepted-tag image _ ok i l;
+      tag = form-means (blockAt (blocksOf image) i .tag) (accepted-tag image _ ok i l);
       start = accepted-start image _ ok i l;
       abort = accepted-abort image _ ok i l;
       no-abort = accepted-no-abort image _ ok i l;

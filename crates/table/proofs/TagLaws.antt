@@ -1,5 +1,6 @@
 -- Laws of tags: the form by an index, for the loops of tag::spaces_from and tag::tag_form; tags compared by their numbers, for the
--- record checks and for find. Only here is `tagForm` taken apart, and nowhere is `tagChar`, but in the proof of tag::tag_char.
+-- record checks and for find. Only here is `tagForm` taken apart, and `tagChar` only in tag::tag_char's proof and in one law of TagFormLaws; what
+-- is computed unfolds both.
 use Prim.Native.Nat.{ℕ, _+_, _≤_, _<_}
 use mathlib.Core.Path.{_≡_, refl, ap, sym}
 use mathlib.Core.List.{List, [], _∷_}
@@ -22,26 +23,23 @@ module _ (t : List ℕ) (i : ℕ) where
   unfolding spaces
   spaces-at h = rw (add-one, drop-cons t i 0)
 
-  pub padded-at : i < length t → padded (drop i t) ≡ cond (tagChar (getD t i 0)) (padded (drop (i + 1) t)) (spaces (drop i t))
+  pub padded-at : i < length t → padded i (drop i t) ≡ cond (tagChar i (getD t i 0)) (padded (i + 1) (drop (i + 1) t)) (spaces (drop i t))
   unfolding padded
   padded-at h = rw (add-one, drop-cons t i 0)
-
-  text-at : i < length t → tagText (drop i t) ≡ (tagChar (getD t i 0) && padded (drop (i + 1) t))
-  unfolding tagText
-  text-at h = rw (add-one, drop-cons t i 0)
 
   pub spaces-past : i ≡ length t → spaces (drop i t) ≡ true
   unfolding spaces
   spaces-past h = rw (h, drop-length)
 
-  pub padded-past : i ≡ length t → padded (drop i t) ≡ true
+  pub padded-past : i ≡ length t → padded i (drop i t) ≡ true
   unfolding padded
   padded-past h = rw (h, drop-length)
 
 -- the form of eight bytes, by the first one
-pub form-first : (t : List ℕ) → length t ≡ tagLength → tagForm t ≡ (tagChar (getD t 0 0) && padded (drop 1 t))
-unfolding tagForm
-form-first t e = simp (eq-eqb _ _ e) (text-at t 0 (omega arith))
+pub form-first : (t : List ℕ) → length t ≡ tagLength → tagForm t ≡ (tagChar 0 (getD t 0 0) && padded 1 (drop 1 t))
+unfolding tagForm tagText
+form-first [] e = absurd (omega arith)
+form-first (b ∷ t) e = simp (eq-eqb _ _ e)
 
 pub form-short : (t : List ℕ) → (length t ≡ tagLength → ⊥) → false ≡ tagForm t
 unfolding tagForm

@@ -32,6 +32,23 @@ pump1 = 0x50 ∷ 0x55 ∷ 0x4D ∷ 0x50 ∷ 0x31 ∷ 0x20 ∷ 0x20 ∷ 0x20 ∷ 
 abbrev fan : List ℕ
 fan = 0x46 ∷ 0x41 ∷ 0x4E ∷ 0x20 ∷ 0x20 ∷ 0x20 ∷ 0x20 ∷ 0x20 ∷ []
 
+-- "IN_1", "IN1", "IN_2", "IN__1"
+abbrev inUnderscoreOne : List ℕ
+inUnderscoreOne = 0x49 ∷ 0x4E ∷ 0x5F ∷ 0x31 ∷ 0x20 ∷ 0x20 ∷ 0x20 ∷ 0x20 ∷ []
+
+abbrev inOne : List ℕ
+inOne = 0x49 ∷ 0x4E ∷ 0x31 ∷ 0x20 ∷ 0x20 ∷ 0x20 ∷ 0x20 ∷ 0x20 ∷ []
+
+abbrev inUnderscoreTwo : List ℕ
+inUnderscoreTwo = 0x49 ∷ 0x4E ∷ 0x5F ∷ 0x32 ∷ 0x20 ∷ 0x20 ∷ 0x20 ∷ 0x20 ∷ []
+
+abbrev inTwoUnderscoresOne : List ℕ
+inTwoUnderscoresOne = 0x49 ∷ 0x4E ∷ 0x5F ∷ 0x5F ∷ 0x31 ∷ 0x20 ∷ 0x20 ∷ 0x20 ∷ []
+
+-- "Z_______"
+abbrev sevenUnderscores : List ℕ
+sevenUnderscores = 0x5A ∷ replicate 7 0x5F
+
 -- tags of one character, of eight, and with a digit first: "Z", "VALVE025", "2PUMP"
 abbrev oneCharacter : List ℕ
 oneCharacter = 0x5A ∷ 0x20 ∷ 0x20 ∷ 0x20 ∷ 0x20 ∷ 0x20 ∷ 0x20 ∷ 0x20 ∷ []
@@ -51,6 +68,18 @@ image =
     ∷ 7 ∷ 1 ∷ 0 ∷ 0 ∷ 1 ∷ 3 ∷ 0 ∷ 0 ∷ 0x50 ∷ 0x55 ∷ 0x4D ∷ 0x50 ∷ 0x31 ∷ 0x20 ∷ 0x20 ∷ 0x20
     ∷ 0 ∷ 0 ∷ 0 ∷ 0 ∷ 0 ∷ 0 ∷ 0 ∷ 0 ∷ 0 ∷ 0 ∷ 0 ∷ 0 ∷ 0 ∷ 0 ∷ 0 ∷ 0
     ∷ []
+
+-- a slot of kind 1 with no wires
+abbrev unwired : ℕ → List ℕ → List ℕ
+unwired next tag = 1 ∷ next ∷ (replicate 6 0 ++ tag)
+
+-- 02, 2/14: "IN_1 and IN1 are two tags." Three blocks in three slots, which hold these tags; the chain is slot 3, slot 1, slot 2.
+abbrev threeLanes : List ℕ → List ℕ → List ℕ → List ℕ
+threeLanes first second third = 1 ∷ 3 ∷ 3 ∷ 0 ∷ (unwired 2 first ++ (unwired 0 second ++ unwired 1 third))
+
+-- IN_1 at position 1, IN1 at position 2, IN_2 at position 3
+abbrev lanes : List ℕ
+lanes = threeLanes inOne inUnderscoreTwo inUnderscoreOne
 
 -- the image with this tag in slot 1
 abbrev tagged : List ℕ → List ℕ
@@ -114,26 +143,43 @@ checkRows =
     ∷ set image 4 12 gives value 2
     ∷ set image 4 13 gives value 2
     ∷ set image 4 14 gives value 2
-    -- 8: tag form; slot. No character, one beside A, Z, 0 or 9, a lower case a, a zero for a space, a space inside
+    -- 8: tag form; slot. No character, one beside A, Z, 0, 9 or the underscore, a lower case a, a zero for a space, a space inside
     ∷ set image 28 0x20 gives refusal 8 2
     ∷ set image 12 0x40 gives refusal 8 1
     ∷ set image 12 0x5B gives refusal 8 1
     ∷ set image 13 0x2F gives refusal 8 1
     ∷ set image 13 0x3A gives refusal 8 1
+    ∷ set image 13 0x5E gives refusal 8 1
+    ∷ set image 13 0x60 gives refusal 8 1
     ∷ set image 14 0x61 gives refusal 8 1
     ∷ set image 19 0 gives refusal 8 1
     ∷ set image 19 0x41 gives refusal 8 1
-    -- A, Z, 0 and 9 at those bytes, a character more, one alone, all eight, and a digit first are in form
+    -- an underscore first, alone, and after a space
+    ∷ set image 12 0x5F gives refusal 8 1
+    ∷ tagged (set oneCharacter 0 0x5F) gives refusal 8 1
+    ∷ set image 19 0x5F gives refusal 8 1
+    -- A, Z, 0, 9 and the underscore at those bytes, a character more, one alone, all eight, and a digit first are in form
     ∷ set image 12 0x41 gives value 2
     ∷ set image 12 0x5A gives value 2
     ∷ set image 13 0x30 gives value 2
     ∷ set image 13 0x39 gives value 2
+    ∷ set image 13 0x5F gives value 2
     ∷ set image 15 0x41 gives value 2
     ∷ tagged oneCharacter gives value 2
     ∷ tagged eightCharacters gives value 2
     ∷ tagged digitFirst gives value 2
+    -- an underscore last, before spaces and as the eighth, after a digit, and in every place but the first
+    ∷ set image 15 0x5F gives value 2
+    ∷ tagged (set eightCharacters 7 0x5F) gives value 2
+    ∷ tagged (set digitFirst 1 0x5F) gives value 2
+    ∷ tagged sevenUnderscores gives value 2
+    -- tags told apart by an underscore alone, in either order
+    ∷ lanes gives value 3
+    ∷ threeLanes inUnderscoreOne inUnderscoreTwo inOne gives value 3
     -- 9: tag of an earlier block; later slot
     ∷ tagged pump1 gives refusal 9 1
+    ∷ threeLanes inUnderscoreOne inUnderscoreTwo inUnderscoreOne gives refusal 9 1
+    ∷ threeLanes inOne inUnderscoreOne inUnderscoreOne gives refusal 9 2
     -- 10: a wire's slot, off the chain or above N; a code beside slot 0; bits 2 to 6 of a code; an abort wire on kind 9, its slot and its code, and on kind 4
     ∷ set image 6 3 gives refusal 10 1
     ∷ set image 24 4 gives refusal 10 2
@@ -176,6 +222,9 @@ unfoldable pub findRows : List (Row (List ℕ × List ℕ))
 findRows =
     (image, pump1) gives value 1
     ∷ (image, fan) gives value 2
+    ∷ (lanes, inUnderscoreOne) gives value 1
+    ∷ (lanes, inOne) gives value 2
+    ∷ (lanes, inUnderscoreTwo) gives value 3
     -- the table's checks come first
     ∷ (set image 0 2, []) gives refusal 2 0
     ∷ (set image 36 1, pump1) gives refusal 11 3
@@ -188,13 +237,22 @@ findRows =
     ∷ (image, set fan 0 0x5B) gives refusal 50 0
     ∷ (image, set fan 1 0x2F) gives refusal 50 0
     ∷ (image, set fan 1 0x3A) gives refusal 50 0
+    ∷ (image, set fan 1 0x5E) gives refusal 50 0
+    ∷ (image, set fan 1 0x60) gives refusal 50 0
+    ∷ (image, set fan 0 0x5F) gives refusal 50 0
+    ∷ (image, set fan 7 0x5F) gives refusal 50 0
     ∷ (image, set fan 2 0x6E) gives refusal 50 0
     ∷ (image, set fan 3 0) gives refusal 50 0
     ∷ (image, set fan 1 0x20) gives refusal 50 0
-    -- 51: no such tag. A character more, one less, I for 1
+    -- 51: no such tag. A character more, one less, I for 1; an underscore more, one less, IN_ and IN__1 beside IN_1, seven underscores
     ∷ (image, set fan 3 0x41) gives refusal 51 0
     ∷ (image, set pump1 4 0x20) gives refusal 51 0
     ∷ (image, set pump1 4 0x49) gives refusal 51 0
+    ∷ (image, set fan 3 0x5F) gives refusal 51 0
+    ∷ (set image 15 0x5F, fan) gives refusal 51 0
+    ∷ (lanes, set inUnderscoreOne 3 0x20) gives refusal 51 0
+    ∷ (lanes, inTwoUnderscoresOne) gives refusal 51 0
+    ∷ (lanes, sevenUnderscores) gives refusal 51 0
     ∷ (header 1 ++ replicate 16 0, fan) gives refusal 51 0
     ∷ []
 

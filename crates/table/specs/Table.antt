@@ -9,7 +9,7 @@ use Rattle.kind.specs.Kind.{isKind, hasAbort}
 use Rattle.membership.specs.Membership.{among}
 use Rattle.image.specs.Image.{mostSlots, slotCount, headSlot, nextOf, tagOf, slotBytes}
 use Rattle.table.specs.Header.{headerCheck}
-use Rattle.table.specs.Tag.{tagForm}
+use Rattle.table.specs.Tag.{tagForm, TagOk}
 use Rattle.table.specs.Chain.{chainOf}
 use Rattle.table.specs.Record.{kindOk, startOk, abortOk}
 use Rattle.table.specs.Spare.{allZero}
@@ -58,7 +58,7 @@ pub record WireFits (n : ℕ) (w : Wire) : Type 0 where
 -- one block of a table of n blocks
 pub record BlockOk (n : ℕ) (b : Block) : Type 0 where
   pub kind : isKind (b .kind) ≡ true
-  pub tag : tagForm (b .tag) ≡ true
+  pub tag : TagOk (b .tag)
   pub start : WireFits n (b .start)
   pub abort : WireFits n (b .abort)
   -- "Kinds 1-4 and 9-14 have no abort wire"

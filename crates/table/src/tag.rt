@@ -1,4 +1,4 @@
-// Tags: one or more of A-Z and 0-9, then spaces to eight bytes.
+// Tags: one or more of A-Z, 0-9 and, except first, the underscore, then spaces to eight bytes.
 ghost use mathlib.Core.Path.{_≡_};
 ghost use Prim.Native.Nat.{_≤_};
 ghost use lib.ListN.{length, drop};
@@ -9,11 +9,11 @@ use image::TAG_LENGTH;
 use image::TAG_OFFSET;
 use image::slot_start;
 
-// A-Z and 0-9.
-fn tag_char(b: u8) -> bool
-    ensures { λ r. ⌜ r ≡ tagChar b ⌝ }
+// A-Z, 0-9 and, except in the first place, the underscore.
+fn tag_char(place: usize, b: u8) -> bool
+    ensures { λ r. ⌜ r ≡ tagChar place b ⌝ }
 {
-    ((b'A' <= b) & (b <= b'Z')) | ((b'0' <= b) & (b <= b'9'))
+    ((b'A' <= b) & (b <= b'Z')) | ((b'0' <= b) & (b <= b'9')) | ((b == b'_') & (0 < place))
 }
 
 // Whether all bytes from an index on are spaces.
@@ -38,12 +38,12 @@ pub fn tag_form(tag: &[u8]) -> bool
     if tag.len() != TAG_LENGTH {
         return false;
     }
-    if !tag_char(tag[0]) {
+    if !tag_char(0, tag[0]) {
         return false;
     }
     let mut i = 1;
     while i < tag.len() {
-        if !tag_char(tag[i]) {
+        if !tag_char(i, tag[i]) {
             return spaces_from(tag, i);
         }
         i += 1;

@@ -64,10 +64,15 @@ static uint64_t refuse(unsigned number, unsigned place) { return (uint64_t)numbe
 
 static const uint8_t *slot_at(const struct table *t, unsigned slot) { return t->image + 4 + 16 * (slot - 1); }
 
+static int is_tag_char(unsigned place, uint8_t b)
+{
+    return (b >= 'A' && b <= 'Z') || (b >= '0' && b <= '9') || (b == '_' && place > 0);
+}
+
 static int is_tag(const uint8_t *tag)
 {
     unsigned n = 0;
-    while (n < 8 && ((tag[n] >= 'A' && tag[n] <= 'Z') || (tag[n] >= '0' && tag[n] <= '9')))
+    while (n < 8 && is_tag_char(n, tag[n]))
         n++;
     if (n == 0)
         return 0;

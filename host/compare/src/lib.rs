@@ -10,6 +10,7 @@
 //! - [`readings`]: the readings of calls, those out of step counted.
 //! - [`seen`]: what the accepted scans did.
 //! - [`tally`]: counts of what was seen.
+//! - [`underscores`]: tags with underscores, and bytes that are no tag because of one, counted by their form.
 
 #![forbid(unsafe_code)]
 
@@ -23,3 +24,4 @@ pub mod seen;
 pub mod tables;
 pub mod tally;
 pub mod text;
+pub mod underscores;

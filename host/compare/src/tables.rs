@@ -56,33 +56,68 @@ fn has_abort(kind: u8) -> bool {
 /// Characters that are easily taken for one another.
 const ALIKE: &[u8] = b"0O1I2Z5S8B";
 
-/// The characters of tags.
+/// The characters that a tag may begin with; after the first it may have underscores, too.
 const LETTERS: &[u8] = b"ABCDEFGHIJKLMNOPQRSTUVWXYZ0123456789";
 
-/// A tag in form: often one of many that look alike, such as LANE0, LANEO, LANE1 and LANEI.
+/// Where the characters of a tag end.
+fn end(tag: &[u8; 8]) -> usize {
+    tag.iter().position(|&byte| byte == b' ').unwrap_or(8)
+}
+
+/// A tag in form: often one of many that look alike, such as LANE0, LANEO and LANE_0, or IN, IN_, IN_1, IN1 and IN__1.
 pub fn tag(rng: &mut Rng) -> [u8; 8] {
-    let (stem, letters): (&[u8], _) = match rng.below(4) {
+    let (stem, characters): (&[u8], &[u8]) = match rng.below(6) {
         0 | 1 => (b"LANE", ALIKE),
-        2 => (b"", ALIKE),
+        2 => (b"IN", b"_12"),
+        3 => (b"", ALIKE),
         _ => (b"", LETTERS),
     };
     let mut tag = [b' '; 8];
     tag[..stem.len()].copy_from_slice(stem);
     let end = rng.range(stem.len().max(1), 8);
     for place in &mut tag[stem.len()..end] {
-        *place = rng.pick(letters);
+        *place = rng.pick(characters);
+    }
+    if end > 1 && rng.one_in(3) {
+        underscore(rng, &mut tag[1..end]);
     }
     tag
 }
 
-/// The tag with one character exchanged for its look-alike, or one more or fewer.
+/// Puts underscores in the place of some characters: of one, of some in a row, of all from one on or of all.
+fn underscore(rng: &mut Rng, characters: &mut [u8]) {
+    let last = characters.len() - 1;
+    let at = rng.below(characters.len());
+    let (from, to) = match rng.below(4) {
+        0 => (at, at),
+        1 => (at, rng.range(at, last)),
+        2 => (at, last),
+        _ => (0, last),
+    };
+    characters[from..=to].fill(b'_');
+}
+
+/// A tag that is easily taken for this one, and at times is this one: a character exchanged for its look-alike or for an
+/// underscore, an underscore for a character, or a character or an underscore more or fewer.
 pub fn alike(rng: &mut Rng, tag: [u8; 8]) -> [u8; 8] {
     let mut other = tag;
-    let end = tag.iter().position(|&byte| byte == b' ').unwrap_or(8);
+    let end = end(&tag);
     let at = rng.below(end);
-    match rng.below(4) {
+    match rng.below(8) {
         0 if end < 8 => other[end] = rng.pick(ALIKE),
         1 if end > 1 => other[end - 1] = b' ',
+        2 | 3 if end < 8 => {
+            other.copy_within(at + 1..7, at + 2);
+            other[at + 1] = b'_';
+        }
+        4 if tag[at] == b'_' => {
+            other.copy_within(at + 1.., at);
+            other[7] = b' ';
+        }
+        4 | 5 if at > 0 => match tag[at] {
+            b'_' => other[at] = rng.pick(ALIKE),
+            _ => other[at] = b'_',
+        },
         _ => match ALIKE.iter().position(|&byte| byte == tag[at]) {
             Some(which) => other[at] = ALIKE[which ^ 1],
             None => other[at] = rng.pick(LETTERS),
@@ -94,8 +129,8 @@ pub fn alike(rng: &mut Rng, tag: [u8; 8]) -> [u8; 8] {
 /// Eight bytes that are no tag.
 pub fn no_tag(rng: &mut Rng) -> [u8; 8] {
     let mut bytes = tag(rng);
-    let end = bytes.iter().position(|&byte| byte == b' ').unwrap_or(8);
-    match rng.below(6) {
+    let end = end(&bytes);
+    match rng.below(12) {
         0 => bytes = [b' '; 8],
         1 => bytes = [0; 8],
         // A space before another character.
@@ -107,19 +142,51 @@ pub fn no_tag(rng: &mut Rng) -> [u8; 8] {
         // Zeros in the place of the spaces, or one zero at the end.
         3 if end < 8 => bytes[end..].fill(0),
         3 => bytes[7] = 0,
-        // A byte that is none of A-Z, 0-9 and space, next to them or anywhere.
-        4 => bytes[rng.below(8)] = rng.pick(b"/:@[`az_-.!\x1f\x00\x7f\x80\xa0\xff"),
-        _ => {
+        // A byte that no tag has: often one before or after a range of those that it has.
+        4 => bytes[rng.below(8)] = rng.pick(b"/:@[^`az-.!\x1f\x00\x7f\x80\xa0\xdf\xff"),
+        5 => {
             let place = rng.below(8);
             bytes[place] = loop {
                 let byte = rng.byte(0, 255);
-                if !LETTERS.contains(&byte) && byte != b' ' {
+                if !LETTERS.contains(&byte) && !b"_ ".contains(&byte) {
                     break byte;
                 }
             };
         }
+        // 0x5E or 0x60, the bytes on either side of 0x5F, for a character.
+        6 | 7 => {
+            let place = rng.below(8);
+            bytes[end.min(place)..place].fill(rng.pick(LETTERS));
+            bytes[place] = rng.pick(b"^`");
+        }
+        8 | 9 => underscore_first(rng, &mut bytes),
+        _ => underscore_after_space(rng, &mut bytes),
     }
     bytes
+}
+
+/// Puts underscores first: one before spaces, all eight, or in the place of the first characters of the tag.
+fn underscore_first(rng: &mut Rng, tag: &mut [u8; 8]) {
+    match rng.below(6) {
+        0 => *tag = *b"_       ",
+        1 => *tag = [b'_'; 8],
+        2 => tag[..rng.range(1, 8)].fill(b'_'),
+        _ => tag[0] = b'_',
+    }
+}
+
+/// Puts underscores after the tag and a space at least: after one space, in the last place, anywhere, or from there on.
+/// A tag of seven or eight characters is cut.
+fn underscore_after_space(rng: &mut Rng, tag: &mut [u8; 8]) {
+    let end = end(tag).min(6);
+    tag[end..].fill(b' ');
+    let at = rng.range(end + 1, 7);
+    match rng.below(4) {
+        0 => tag[end + 1] = b'_',
+        1 => tag[7] = b'_',
+        2 => tag[at] = b'_',
+        _ => tag[at..].fill(b'_'),
+    }
 }
 
 /// The code of a wire: one of the four flags, inverted or not.
@@ -142,25 +209,35 @@ impl Table {
         let head = chain.first().copied().unwrap_or(0);
         image[..HEADER].copy_from_slice(&[1, size.slots as u8, head, 0]);
         let mut table = Table { image, chain };
-        let wired = rng.pick(&[0, 2, 4]);
+        let (wired, kin) = (rng.pick(&[0, 2, 4]), rng.pick(&[0, 1, 3]));
         for position in 0..size.blocks {
-            table.fill(rng, position, wired);
+            let tag = table.new_tag(rng, position, kin);
+            table.fill(rng, position, tag, wired);
         }
         table
     }
 
-    /// Writes the block at an index of the chain; of four inputs, `wired` on average have a wire.
-    fn fill(&mut self, rng: &mut Rng, index: usize, wired: usize) {
-        let kind = rng.byte(1, 14);
-        let tag = loop {
-            let tag = tag(rng);
-            if !self.chain[..index]
-                .iter()
-                .any(|&slot| self.tag(slot) == tag)
-            {
-                break tag;
+    /// A tag for the block at an index of the chain that no earlier one has; of four, `kin` on average are like one of
+    /// theirs.
+    fn new_tag(&self, rng: &mut Rng, index: usize, kin: usize) -> [u8; 8] {
+        let earlier = &self.chain[..index];
+        loop {
+            let tag = match rng.below(4) < kin && index > 0 {
+                true => {
+                    let slot = rng.pick(earlier);
+                    alike(rng, self.tag(slot))
+                }
+                false => tag(rng),
+            };
+            if !earlier.iter().any(|&slot| self.tag(slot) == tag) {
+                return tag;
             }
-        };
+        }
+    }
+
+    /// Writes the block at an index of the chain; of four inputs, `wired` on average have a wire.
+    fn fill(&mut self, rng: &mut Rng, index: usize, tag: [u8; 8], wired: usize) {
+        let kind = rng.byte(1, 14);
         let chain = self.chain.clone();
         let next = chain.get(index + 1).copied().unwrap_or(0);
         let slot = self.slot(chain[index]);
@@ -187,6 +264,11 @@ impl Table {
         let mut tag = [0; 8];
         tag.copy_from_slice(&self.image[at..at + 8]);
         tag
+    }
+
+    /// The tags of its blocks, in chain order.
+    pub fn tags(&self) -> Vec<[u8; 8]> {
+        self.chain.iter().map(|&slot| self.tag(slot)).collect()
     }
 
     /// The kind in a slot.

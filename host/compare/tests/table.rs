@@ -8,7 +8,9 @@ use compare::rng::{settings, Rng};
 use compare::tables::{alike, no_tag, tag, Fault, Size, Table};
 use compare::tally::Tally;
 use compare::text::{answer, Answer};
-use lane::{Engine, Position, Refusal, Tag};
+use compare::underscores::{pairs, Bytes, Forms};
+use lane::{Block, Engine, Kind, Position, Refusal, Tag};
+use std::{array, iter};
 
 /// The numbers of the table checks, and of those that name a slot.
 const TABLE: std::ops::RangeInclusive<u32> = 1..=11;
@@ -33,7 +35,7 @@ fn expect(case: u64, table: &Table, expected: Answer, given: Answer) {
 #[test]
 fn valid_tables() {
     let (seed, cases) = settings("valid tables", 101, 60_000);
-    let mut tally = Tally::default();
+    let (mut tally, mut tags) = (Tally::default(), Forms::tags());
     let mut kinds = [0u64; 15];
     let mut full = 0u64;
     for case in 0..cases {
@@ -43,21 +45,23 @@ fn valid_tables() {
         let given = agreed(case, check(&table.image));
         expect(case, &table, Ok(table.chain.len() as u32), given);
         tally.add(given);
+        tags.add(table.tags().iter().copied());
         full += u64::from(table.chain.len() == 64);
         for &slot in &table.chain {
             kinds[usize::from(table.kind(slot))] += 1;
         }
     }
-    print!("{tally}");
+    print!("{tally}tables\n{tags}");
     println!("{full:>10} of 64 blocks");
     println!("kinds 1 to 14: {:?}", &kinds[1..]);
     assert!(full > 0 && kinds[1..].iter().all(|&count| count > 0));
+    tags.expect(10);
 }
 
 #[test]
 fn tables_with_one_fault() {
     let (seed, cases) = settings("tables with one fault", 102, 80_000);
-    let mut tally = Tally::default();
+    let (mut tally, mut no_tags) = (Tally::default(), Forms::no_tags());
     for case in 0..cases {
         let mut rng = Rng::for_case(seed, case);
         let size = Size::any(&mut rng);
@@ -70,10 +74,14 @@ fn tables_with_one_fault() {
         let given = agreed(case, check(&table.image));
         expect(case, &table, expected, given);
         tally.add(given);
+        if let Some(refusal) = given.err().filter(|refusal| refusal.number() == 8) {
+            no_tags.add(iter::once(table.tag(refusal.place_number() as u8)));
+        }
     }
-    print!("{tally}");
+    print!("{tally}refused 8\n{no_tags}");
     tally.expect(TABLE);
     tally.expect_places(SLOT);
+    no_tags.expect(200);
 }
 
 #[test]
@@ -176,59 +184,130 @@ fn position_of(table: &Table, wanted: &[u8; 8]) -> Answer {
     index.map_or(Err(Refusal::new(51, 0)), |at| Ok(at as u32 + 1))
 }
 
-/// Looks up a tag whose answer is known.
-fn look_up(case: u64, table: &Table, wanted: &[u8], expected: Answer, tally: &mut Tally) {
-    let given = agreed(case, find(&table.image, wanted));
-    expect(case, table, expected, given);
-    tally.add(given);
+/// The answers to lookups, and the underscores that they turn on.
+struct Lookups {
+    tally: Tally,
+    /// Tables by the pairs of their tags, each of them found at its own position.
+    found: Forms<[Bytes; 2]>,
+    /// Eight bytes that are no tag.
+    no_tags: Forms<Bytes>,
+    /// Tags in form that no block has, each with those of the blocks.
+    absent: Forms<[Bytes; 2]>,
 }
 
-/// Looks up a tag in form, eight bytes that are none, and bytes of another length.
-fn look_up_any(case: u64, rng: &mut Rng, table: &Table, tally: &mut Tally) {
-    let known = known_tag(rng, table);
-    let wanted = match rng.below(3) {
-        0 => tag(rng),
-        1 => alike(rng, known),
-        _ => known,
-    };
-    look_up(case, table, &wanted, position_of(table, &wanted), tally);
+impl Lookups {
+    fn new() -> Lookups {
+        Lookups {
+            tally: Tally::default(),
+            found: Forms::pairs(),
+            no_tags: Forms::no_tags(),
+            absent: Forms::pairs(),
+        }
+    }
 
-    let refused = Err(Refusal::new(50, 0));
-    look_up(case, table, &no_tag(rng), refused, tally);
+    /// Looks up each tag of a table.
+    fn look_up_all(&mut self, case: u64, table: &Table) {
+        let tags = table.tags();
+        for (position, tag) in (1..).zip(&tags) {
+            self.look_up(case, table, tag, Ok(position));
+        }
+        self.found.add(pairs(&tags));
+    }
 
-    // Seven bytes, nine, none, sixteen: whatever they begin with.
-    let mut wanted = known.to_vec();
-    wanted.resize(rng.pick(&[0, 1, 7, 9, 16]), b' ');
-    look_up(case, table, &wanted, refused, tally);
+    /// Looks up a tag whose answer is known.
+    fn look_up(&mut self, case: u64, table: &Table, wanted: &[u8], expected: Answer) {
+        let given = agreed(case, find(&table.image, wanted));
+        expect(case, table, expected, given);
+        self.tally.add(given);
+        let (Err(refusal), Ok(wanted)) = (given, Bytes::try_from(wanted)) else {
+            return;
+        };
+        match refusal.number() {
+            50 => self.no_tags.add(iter::once(wanted)),
+            51 => self
+                .absent
+                .add(table.tags().iter().map(|&tag| [wanted, tag])),
+            _ => {}
+        }
+    }
+
+    /// Looks up a tag in form, eight bytes that are none, and bytes of another length.
+    fn look_up_any(&mut self, case: u64, rng: &mut Rng, table: &Table) {
+        let known = known_tag(rng, table);
+        let wanted = match rng.below(3) {
+            0 => tag(rng),
+            1 => alike(rng, known),
+            _ => known,
+        };
+        self.look_up(case, table, &wanted, position_of(table, &wanted));
+
+        let refused = Err(Refusal::new(50, 0));
+        self.look_up(case, table, &no_tag(rng), refused);
+
+        // Seven bytes, nine, none, sixteen: whatever they begin with.
+        let mut wanted = known.to_vec();
+        wanted.resize(rng.pick(&[0, 1, 7, 9, 16]), b' ');
+        self.look_up(case, table, &wanted, refused);
+    }
+
+    /// Fails unless every refusal was seen, and underscores often told tags from one another and from what is none.
+    fn expect_all(&self) {
+        print!("{}tables with a tag\n{}", self.tally, self.found);
+        print!("refused 50\n{}refused 51\n{}", self.no_tags, self.absent);
+        self.tally.expect(TABLE);
+        self.tally.expect([50, 51]);
+        self.tally.expect_places(SLOT);
+        assert!(self.tally.accepted() > 0);
+        self.found.expect(4);
+        self.no_tags.expect(200);
+        self.absent.expect(20);
+    }
 }
 
 #[test]
 fn tags() {
     let (seed, cases) = settings("tags", 106, 20_000);
-    let mut tally = Tally::default();
+    let mut lookups = Lookups::new();
     for case in 0..cases {
         let mut rng = Rng::for_case(seed, case);
         let size = Size::any(&mut rng);
         let mut table = Table::new(&mut rng, size);
-        for (position, &slot) in (1..).zip(&table.chain) {
-            look_up(case, &table, &table.tag(slot), Ok(position), &mut tally);
-        }
+        lookups.look_up_all(case, &table);
         for _ in 0..4 {
-            look_up_any(case, &mut rng, &table, &mut tally);
+            lookups.look_up_any(case, &mut rng, &table);
         }
         // The checks of the table come first.
         let fault = rng.pick(&Fault::ALL);
         if let Some(refusal) = table.damage(&mut rng, fault) {
             for wanted in [tag(&mut rng), no_tag(&mut rng)] {
-                look_up(case, &table, &wanted, Err(refusal), &mut tally);
+                lookups.look_up(case, &table, &wanted, Err(refusal));
             }
         }
     }
-    print!("{tally}");
-    tally.expect(TABLE);
-    tally.expect([50, 51]);
-    tally.expect_places(SLOT);
-    assert!(tally.accepted() > 0);
+    lookups.expect_all();
+}
+
+/// Every eight bytes of a letter, an underscore, a space and a byte that no tag has: in a table, in a lookup and in the
+/// binding. Tags are the 255 with a letter first, letters and underscores after it, and then spaces.
+#[test]
+fn tag_forms() {
+    let lane0 = Tag::from_bytes(*b"LANE0   ").expect("a tag");
+    let table = lane::image(&[Block::new(Kind::ETrig, lane0)]);
+    let mut tags = 0;
+    for case in 0..4u64.pow(8) {
+        let bytes: Bytes = array::from_fn(|place| b"A_ ^"[(case >> (2 * place)) as usize % 4]);
+        let is_tag = Tag::from_bytes(bytes).is_some();
+        let (found, checked) = match is_tag {
+            true => (Err(Refusal::new(51, 0)), Ok(1)),
+            false => (Err(Refusal::new(50, 0)), Err(Refusal::new(8, 1))),
+        };
+        let mut image = table.clone();
+        image[12..20].copy_from_slice(&bytes);
+        assert_eq!(agreed(case, find(&table, &bytes)), found, "{bytes:?}");
+        assert_eq!(agreed(case, check(&image)), checked, "{bytes:?}");
+        tags += u32::from(is_tag);
+    }
+    assert_eq!(tags, 255);
 }
 
 /// The binding shows the same slots as the reference, and none where that shows none; it finds each tag and
@@ -241,10 +320,12 @@ fn slots_shown() {
         let size = Size::any(&mut rng);
         let table = Table::new(&mut rng, size);
         let engine = Engine::new(&table.image).expect("an accepted table");
-        let mut wanted: Vec<_> = table.chain.iter().map(|&slot| table.tag(slot)).collect();
+        let mut wanted = table.tags();
         wanted.extend([tag(&mut rng), no_tag(&mut rng)]);
         for bytes in wanted {
             let tag = Tag::from_bytes(bytes);
+            let in_form = reference::table::is_tag(&bytes);
+            assert_eq!(tag.is_some(), in_form, "case {case}: {bytes:?}");
             let slot = tag.and_then(|tag| engine.show(tag).ok());
             let shown = slot.map_or(&[][..], |slot| &slot[..]);
             let expected = reference::table::show(&table.image, &bytes);

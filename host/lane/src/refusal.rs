@@ -72,7 +72,10 @@ impl Refusal {
             (5, _) => "its next slot is above the slot count",
             (6, _) => "its next slot was already met on the chain",
             (7, _) => "its kind is not 1 to 14, or its bytes 6-7 are not zero",
-            (8, _) => "its tag is not one or more of A-Z and 0-9, then spaces to eight bytes",
+            (8, _) => {
+                "its tag is not one or more of A-Z, 0-9 and, except first, underscore, \
+                 then spaces to eight bytes"
+            }
             (9, _) => "an earlier block of the chain has this tag",
             (10, _) => {
                 "a wire of it comes from a slot off the chain, has a code out of form, \
@@ -85,7 +88,10 @@ impl Refusal {
             (31, _) => "its frame entry is out of form",
             (40, _) => "the report's length is not 12 bytes a block",
             (41, _) => "the journal is shorter than 16 bytes a block",
-            (50, _) => "the tag to find is not eight bytes in the form of a tag",
+            (50, _) => {
+                "the tag to find is not one or more of A-Z, 0-9 and, except first, underscore, \
+                 then spaces to eight bytes"
+            }
             (51, _) => "no block of the table has this tag",
             _ => "no check has this number",
         }

@@ -78,7 +78,8 @@ impl Kind {
     }
 }
 
-/// A tag in its form: one or more of A-Z and 0-9, then spaces to eight bytes. As text it has no spaces.
+/// A tag in its form: one or more of A-Z, 0-9 and, except first, the underscore, then spaces to eight
+/// bytes. As text it has no spaces.
 ///
 /// ```
 /// use lane::Tag;
@@ -87,7 +88,8 @@ impl Kind {
 /// assert_eq!(tag.as_bytes(), b"LANE0   ");
 /// assert_eq!(tag.to_string(), "LANE0");
 /// assert_ne!(tag, "LANEO".parse()?);
-/// for text in ["", "lane0", "LANE 0", "LANE00001"] {
+/// assert_ne!("IN_1".parse::<Tag>()?, "IN1".parse()?);
+/// for text in ["", "lane0", "LANE 0", "LANE00001", "_IN1"] {
 ///     assert!(text.parse::<Tag>().is_err());
 /// }
 /// # Ok::<(), lane::TagError>(())
@@ -95,11 +97,18 @@ impl Kind {
 #[derive(Clone, Copy, Debug, PartialEq, Eq, Hash, PartialOrd, Ord)]
 pub struct Tag([u8; TAG_BYTES]);
 
+/// Whether a byte is a tag character in this place of a tag, from 0.
+const fn is_tag_char(place: usize, byte: u8) -> bool {
+    byte.is_ascii_uppercase() || byte.is_ascii_digit() || (byte == b'_' && place > 0)
+}
+
 impl Tag {
     /// The tag in these bytes, `None` if they are out of form.
     pub fn from_bytes(bytes: [u8; TAG_BYTES]) -> Option<Tag> {
-        let formed = |byte: &u8| byte.is_ascii_uppercase() || byte.is_ascii_digit();
-        let name = bytes.iter().take_while(|byte| formed(byte)).count();
+        let places = bytes.iter().enumerate();
+        let name = places
+            .take_while(|&(place, &byte)| is_tag_char(place, byte))
+            .count();
         let spaces = bytes[name..].iter().all(|&byte| byte == b' ');
         (name > 0 && spaces).then_some(Tag(bytes))
     }
@@ -117,7 +126,7 @@ pub struct TagError;
 
 impl fmt::Display for TagError {
     fn fmt(&self, f: &mut fmt::Formatter<'_>) -> fmt::Result {
-        f.write_str("a tag is 1 to 8 of A-Z and 0-9")
+        f.write_str("a tag is 1 to 8 of A-Z, 0-9 and, except first, underscore")
     }
 }
 
@@ -126,7 +135,7 @@ impl Error for TagError {}
 impl FromStr for Tag {
     type Err = TagError;
 
-    /// The tag with this name, 1 to 8 of A-Z and 0-9.
+    /// The tag with this name, 1 to 8 of A-Z, 0-9 and, except first, underscore.
     fn from_str(name: &str) -> Result<Tag, TagError> {
         let mut bytes = [b' '; TAG_BYTES];
         let front = bytes.get_mut(..name.len()).ok_or(TagError)?;

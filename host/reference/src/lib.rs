@@ -1,5 +1,5 @@
 //! A plain statement of the rules of the lane engine, written from the scope
-//! document and request 1/14 of document 02 alone.
+//! document and requests 1/14 and 2/14 of document 02 alone.
 //!
 //! - [`table`]: the table image, its checks, and the lookup of a tag.
 //! - [`machine`]: one call of one block.

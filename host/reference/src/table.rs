@@ -114,14 +114,23 @@ impl Slot {
     }
 }
 
+/// "A-Z and 0-9"
+fn is_letter_or_digit(byte: u8) -> bool {
+    byte.is_ascii_uppercase() || byte.is_ascii_digit()
+}
+
 /// "Tag: one or more of A-Z and 0-9, then spaces (0x20) to eight bytes. No
 /// folding of any kind."
+///
+/// Request 2/14: "The underscore (0x5F) becomes a tag character everywhere a
+/// tag is read, except as the first one. IN_1 and IN1 are two tags. Numbers 8
+/// and 50 follow the wider form."
 pub fn is_tag(tag: &[u8; 8]) -> bool {
-    let named = tag
+    let [first, rest @ ..] = tag;
+    let mut after = rest
         .iter()
-        .take_while(|byte| byte.is_ascii_uppercase() || byte.is_ascii_digit())
-        .count();
-    named >= 1 && tag.iter().skip(named).all(|&byte| byte == 0x20)
+        .skip_while(|&&byte| is_letter_or_digit(byte) || byte == 0x5f);
+    is_letter_or_digit(*first) && after.all(|&byte| byte == 0x20)
 }
 
 /// The slots of an image and the chain through them.

@@ -1,7 +1,7 @@
 //! The table checks 1 to 11 and the lookup, 50 and 51, with their places and
 //! their order.
 
-use reference::table::{chain, check, find, show, Refusal};
+use reference::table::{chain, check, find, is_tag, show, Refusal};
 
 /// A slot: kind, next, start wire, abort wire, tag.
 type Row = (u8, u8, [u8; 2], [u8; 2], &'static [u8; 8]);
@@ -151,12 +151,11 @@ fn kind() {
 
 #[test]
 fn tag() {
-    let bad: [&[u8; 8]; 8] = [
+    let bad: [&[u8; 8]; 7] = [
         b"        ",
         b" LANE   ",
         b"LANE 1  ",
         b"lane1   ",
-        b"LANE_1  ",
         b"LANE1\0\0\0",
         b"ABCDEFG\x80",
         b"ABCDEFG[",
@@ -175,6 +174,94 @@ fn tag() {
     }
     // The later of two equal tags in chain order is slot 1, not slot 2.
     assert_eq!(check(&with(1, 12, b'2')), no(9, 1));
+}
+
+/// Every byte at every place of a name of eight characters, of one that spaces
+/// follow, and of one underscore after a letter.
+#[test]
+fn tag_form_by_place() {
+    for place in 0..8 {
+        for byte in 0..=255u8 {
+            let letter = byte.is_ascii_uppercase() || byte.is_ascii_digit();
+            let character = letter || (byte == b'_' && place > 0);
+            let with = |tag: &[u8; 8]| {
+                let mut tag = *tag;
+                tag[place] = byte;
+                is_tag(&tag)
+            };
+            let last = byte == b' ' && place == 7;
+            assert_eq!(with(b"ABCDEFGH"), character || last, "{byte} at {place}");
+            let after = byte == b' ' || (character && place == 1);
+            let expected = if place == 0 { letter } else { after };
+            assert_eq!(with(b"A       "), expected, "{byte} at {place}");
+            let after = byte == b' ' || (character && place <= 2);
+            let expected = if place == 0 { letter } else { after };
+            assert_eq!(with(b"A_      "), expected, "{byte} at {place}");
+        }
+    }
+}
+
+#[test]
+fn underscore() {
+    let tags: [&[u8; 8]; 7] = [
+        b"IN_1    ",
+        b"A_      ",
+        b"0_      ",
+        b"A__B    ",
+        b"A_B_C_D_",
+        b"A_______",
+        b"ABCDEFG_",
+    ];
+    for tag in tags {
+        let mut bytes = good();
+        bytes[4 + 8..4 + 16].copy_from_slice(tag);
+        assert_eq!(check(&bytes), Ok(3));
+        assert_eq!(find(&bytes, tag), Ok(3));
+        assert_eq!(find(&good(), tag), no(51, 0));
+    }
+    let bad: [&[u8; 8]; 11] = [
+        b"_       ",
+        b"_A      ",
+        b"__A     ",
+        b"________",
+        b" _      ",
+        b"A _     ",
+        b"A_ _    ",
+        b"A      _",
+        b"IN^1    ",
+        b"IN`1    ",
+        b"IN\xdf1    ",
+    ];
+    for tag in bad {
+        let mut bytes = good();
+        bytes[4 + 8..4 + 16].copy_from_slice(tag);
+        assert_eq!(check(&bytes), no(8, 1));
+        assert_eq!(find(&good(), tag), no(50, 0));
+    }
+}
+
+#[test]
+fn tags_with_and_without_underscore_are_two() {
+    let bytes = image(
+        3,
+        &[
+            row(1, 0, b"IN_2    "),
+            row(1, 1, b"IN1     "),
+            row(1, 2, b"IN_1    "),
+        ],
+    );
+    assert_eq!(check(&bytes), Ok(3));
+    assert_eq!(find(&bytes, b"IN_1    "), Ok(1));
+    assert_eq!(find(&bytes, b"IN1     "), Ok(2));
+    assert_eq!(find(&bytes, b"IN_2    "), Ok(3));
+    for tag in [b"IN2     ", b"IN      ", b"IN_     ", b"IN__1   "] {
+        assert_eq!(find(&bytes, tag), no(51, 0));
+        assert_eq!(show(&bytes, tag), b"");
+    }
+    // The same tag again, at the later slot in chain order.
+    let mut twice = bytes;
+    twice[4 + 8..4 + 16].copy_from_slice(b"IN_1    ");
+    assert_eq!(check(&twice), no(9, 1));
 }
 
 #[test]

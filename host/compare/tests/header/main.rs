@@ -161,6 +161,10 @@ fn tags_of_names() {
         "LANE0",
         "LANEO",
         "LANE0001",
+        "IN_1",
+        "IN1",
+        "A_",
+        "A_______",
         "LANE00012",
         "ABCDEFGHIJKLMNOP",
     ];

@@ -13,7 +13,7 @@ use Rattle.table.proofs.tag.tag_form.Statement.{statement}
 use Rattle.table.proofs.tag.tag_form.Tie as tie
 
 abbrev Inv-loop : tie.InvT-loop
-Inv-loop tag i₀ i = (i ≤ length tag) × (padded (drop i tag) ≡ tagForm tag)
+Inv-loop tag i₀ i = (i ≤ length tag) × (padded i (drop i tag) ≡ tagForm tag)
 
 abbrev μ-loop : tie.MeasureT-loop
 μ-loop tag i₀ i = length tag - i
@@ -30,7 +30,7 @@ tag p = entry (measured (p .before .before)) .args .tag .now
 
 -- the form by the first byte
 by-first : (p : tie.After-tag-char Inv-loop μ-loop) (b : Bool) → p .tag-char .result ≡ b
-    → let t = entry (measured p) .args .tag .now in (b && padded (drop 1 t)) ≡ tagForm t
+    → let t = entry (measured p) .args .tag .now in (b && padded 1 (drop 1 t)) ≡ tagForm t
 by-first p b e =
     let first = measured p in
     let t = entry first .args .tag .now in
@@ -41,7 +41,7 @@ abbrev turn : tie.After-tag-char2 Inv-loop μ-loop → tie.In-loop Inv-loop μ-l
 turn p = p .before .before
 
 by-next : (p : tie.After-tag-char2 Inv-loop μ-loop) (b : Bool) → p .tag-char2 .result ≡ b
-    → let l = turn p .before in cond b (padded (drop (l .loop .i + 1) (tag l))) (spaces (drop (l .loop .i) (tag l))) ≡ tagForm (tag l)
+    → let l = turn p .before in cond b (padded (l .loop .i + 1) (drop (l .loop .i + 1) (tag l))) (spaces (drop (l .loop .i) (tag l))) ≡ tagForm (tag l)
 by-next p b e =
     let l = turn p .before in
     sym (padded-at (tag l) (l .loop .i) (turn p .loop-test .taken) ∙ simp (sym (p .tag-char2 .ensures) ∙ e)) ∙ l .loop .inv .1
