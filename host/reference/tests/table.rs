@@ -149,9 +149,33 @@ fn kind() {
     }
 }
 
+/// The good table with a tag in slot 1, which is at position 3.
+fn with_tag(tag: &[u8; 8]) -> Vec<u8> {
+    let mut bytes = good();
+    bytes[4 + 8..4 + 16].copy_from_slice(tag);
+    bytes
+}
+
+/// Tags that no other block of the good table has.
+fn expect_tags(tags: &[&[u8; 8]]) {
+    for &tag in tags {
+        assert_eq!(check(&with_tag(tag)), Ok(3));
+        assert_eq!(find(&with_tag(tag), tag), Ok(3));
+        assert_eq!(find(&good(), tag), no(51, 0));
+    }
+}
+
+/// Eight bytes that are no tag.
+fn expect_no_tags(bad: &[&[u8; 8]]) {
+    for &tag in bad {
+        assert_eq!(check(&with_tag(tag)), no(8, 1));
+        assert_eq!(find(&good(), tag), no(50, 0));
+    }
+}
+
 #[test]
 fn tag() {
-    let bad: [&[u8; 8]; 7] = [
+    expect_no_tags(&[
         b"        ",
         b" LANE   ",
         b"LANE 1  ",
@@ -159,19 +183,8 @@ fn tag() {
         b"LANE1\0\0\0",
         b"ABCDEFG\x80",
         b"ABCDEFG[",
-    ];
-    for tag in bad {
-        let mut bytes = good();
-        bytes[4 + 8..4 + 16].copy_from_slice(tag);
-        assert_eq!(check(&bytes), no(8, 1));
-        assert_eq!(find(&good(), tag), no(50, 0));
-    }
-    for tag in [b"A       ", b"0       ", b"AZ09AZ09"] {
-        let mut bytes = good();
-        bytes[4 + 8..4 + 16].copy_from_slice(tag);
-        assert_eq!(check(&bytes), Ok(3));
-        assert_eq!(find(&bytes, tag), Ok(3));
-    }
+    ]);
+    expect_tags(&[b"A       ", b"0       ", b"AZ09AZ09"]);
     // The later of two equal tags in chain order is slot 1, not slot 2.
     assert_eq!(check(&with(1, 12, b'2')), no(9, 1));
 }
@@ -203,7 +216,7 @@ fn tag_form_by_place() {
 
 #[test]
 fn underscore() {
-    let tags: [&[u8; 8]; 7] = [
+    expect_tags(&[
         b"IN_1    ",
         b"A_      ",
         b"0_      ",
@@ -211,15 +224,8 @@ fn underscore() {
         b"A_B_C_D_",
         b"A_______",
         b"ABCDEFG_",
-    ];
-    for tag in tags {
-        let mut bytes = good();
-        bytes[4 + 8..4 + 16].copy_from_slice(tag);
-        assert_eq!(check(&bytes), Ok(3));
-        assert_eq!(find(&bytes, tag), Ok(3));
-        assert_eq!(find(&good(), tag), no(51, 0));
-    }
-    let bad: [&[u8; 8]; 11] = [
+    ]);
+    expect_no_tags(&[
         b"_       ",
         b"_A      ",
         b"__A     ",
@@ -231,13 +237,7 @@ fn underscore() {
         b"IN^1    ",
         b"IN`1    ",
         b"IN\xdf1    ",
-    ];
-    for tag in bad {
-        let mut bytes = good();
-        bytes[4 + 8..4 + 16].copy_from_slice(tag);
-        assert_eq!(check(&bytes), no(8, 1));
-        assert_eq!(find(&good(), tag), no(50, 0));
-    }
+    ]);
 }
 
 #[test]
