@@ -6,8 +6,8 @@
 
 #include "lane.h"
 
-#if LANE_ABI != 1
-#error "this host is written for LANE_ABI 1"
+#if LANE_ABI != 2
+#error "this host is written for LANE_ABI 2"
 #endif
 
 #include <stdio.h>
@@ -28,6 +28,10 @@ enum {
 #define FIRST_CLOCK 4294917296u
 #define PERIOD 20000u
 #define PIECE 5000u
+
+/* Two trucks that LANE0 serves one after the other: appointment numbers that agree in their low four bytes. */
+#define TRUCK 7001u
+#define NEXT_TRUCK ((UINT64_C(1) << 40) + TRUCK)
 
 static const char *const step_names[] = {
     [LANE_STEP_DORMANT] = "Dormant",     [LANE_STEP_EXECUTING] = "Executing",
@@ -72,7 +76,7 @@ struct entry {
     uint8_t reply;
     uint8_t abort_reply;
     uint8_t reset_reply;
-    uint32_t truck;
+    uint64_t truck;
     uint32_t time_out;
     int aborts; /* whether the reply is one to an abort */
 };
@@ -85,22 +89,22 @@ struct entry {
 static const struct entry story[SCANS][LANES] = {
     /*   LANE0                            LANEO                              LANE1
          LANEI                            OUT_1                                                    */
-    {REPLIES(START, WORKING, 7001, 0), SILENT(0, 7001, 30000), SILENT(START, 7101, 90000),
+    {REPLIES(START, WORKING, TRUCK, 0), SILENT(0, TRUCK, 30000), SILENT(START, 7101, 90000),
      REPLIES(START, WORKING, 7201, 0), REPLIES(0, WORKING, 7201, 0)},
     /* Execute of LANE0 drops. */
-    {REPLIES(0, WORKING, 0, 0), SILENT(0, 7001, 30000), SILENT(START, 7101, 90000),
+    {REPLIES(0, WORKING, 0, 0), SILENT(0, TRUCK, 30000), SILENT(START, 7101, 90000),
      REPLIES(START, WORKING, 7201, 0), REPLIES(0, WORKING, 7201, 0)},
-    {REPLIES(0, COMPLETE, 0, 0), REPLIES(0, WORKING, 7001, 30000), SILENT(START, 7101, 90000),
+    {REPLIES(0, COMPLETE, 0, 0), REPLIES(0, WORKING, TRUCK, 30000), SILENT(START, 7101, 90000),
      REPLIES(START, WORKING, 7201, 0), REPLIES(0, WORKING, 7201, 0)},
     /* LANEI is aborted, but its devices need until the next scan. */
-    {REPLIES(START, WORKING, 7002, 0), REPLIES(0, WORKING, 7001, 30000),
+    {REPLIES(START, WORKING, NEXT_TRUCK, 0), REPLIES(0, WORKING, TRUCK, 30000),
      REPLIES(START, COMPLETE, 7101, 90000), ABORTS(START | ABORT, WORKING, 7201),
      REPLIES(0, WORKING, 7201, 0)},
-    {REPLIES(START, WORKING, 7002, 0), REPLIES(0, COMPLETE, 7001, 30000), SILENT(START, 7101, 90000),
+    {REPLIES(START, WORKING, NEXT_TRUCK, 0), REPLIES(0, COMPLETE, TRUCK, 30000), SILENT(START, 7101, 90000),
      ABORTS(START | ABORT, COMPLETE, 7201), ABORTS(0, COMPLETE, 7201)},
-    {REPLIES(START, COMPLETE, 7002, 0), SILENT(0, 7002, 30000), SILENT(0, 0, 90000),
+    {REPLIES(START, COMPLETE, NEXT_TRUCK, 0), SILENT(0, NEXT_TRUCK, 30000), SILENT(0, 0, 90000),
      SILENT(START, 7201, 0), SILENT(0, 0, 0)},
-    {SILENT(0, 0, 0), REPLIES(0, COMPLETE, 7002, 30000), SILENT(0, 0, 90000), SILENT(0, 0, 0),
+    {SILENT(0, 0, 0), REPLIES(0, COMPLETE, NEXT_TRUCK, 30000), SILENT(0, 0, 90000), SILENT(0, 0, 0),
      SILENT(0, 0, 0)},
     {SILENT(0, 0, 0), SILENT(0, 0, 30000), SILENT(0, 0, 90000), SILENT(0, 0, 0), SILENT(0, 0, 0)},
 };
@@ -180,12 +184,14 @@ static void write_entry(uint8_t *frame, uint32_t position, const struct entry *e
 
 static void print_story(void)
 {
-    printf("What happens. The job number of a block is the truck's.\n"
-           "LANE0  Execute drops while truck 7001 is read; the job goes on, 7002 follows.\n"
+    printf("What happens. The job of a block is the appointment number of a truck.\n"
+           "LANE0  Execute drops while truck %u is read; the job goes on. The next truck,\n"
+           "       %llu, has the same low four bytes, and is another one.\n"
            "LANEO  starts when LANE0 is done (a wire); its reply comes after the time-out.\n"
            "LANE1  nothing replies for three scans, then a reply within the time-out.\n"
            "LANEI  is aborted, and its devices need until the next scan for that.\n"
-           "OUT_1  is enabled while LANEI is busy (a wire): the abort withdraws its job.\n\n");
+           "OUT_1  is enabled while LANEI is busy (a wire): the abort withdraws its job.\n\n",
+           TRUCK, (unsigned long long)NEXT_TRUCK);
 }
 
 static void print_legend(void)
@@ -200,7 +206,7 @@ static void print_legend(void)
            "  (an ended or aborting job reads none), and those allowed, if any.\n"
            "code: why a job failed; %d is elapsed past the time-out, even if complete.\n"
            "clock: in microseconds; it wraps from 4294967295 to 0 before scan 4.\n\n"
-           "lane   S A  reply     step       BDEA  pass  used  elapsed/time-out  code truck\n",
+           "lane   S A  reply     step       BDEA  pass  used  elapsed/time-out  code         truck\n",
            LANE_CODE_TIME_OUT);
 }
 
@@ -254,20 +260,20 @@ static void print_effects(const struct box *box, uint32_t position)
                  (unsigned long)record.time_out);
     else if (record.step != LANE_STEP_DORMANT)
         snprintf(time, sizeof time, "%llu/-", (unsigned long long)record.elapsed);
-    printf("%-9s  %c%c%c%c  %4u  %4u  %16s  %4u %5lu\n", step_names[lane.step],
+    printf("%-9s  %c%c%c%c  %4u  %4u  %16s  %4u %13llu\n", step_names[lane.step],
            lane.flags & LANE_FLAG_BUSY ? 'B' : '.', lane.flags & LANE_FLAG_DONE ? 'D' : '.',
            lane.flags & LANE_FLAG_ERROR ? 'E' : '.', lane.flags & LANE_FLAG_ABORTED ? 'A' : '.',
            (unsigned)lane.passes, (unsigned)lane.pieces, time, (unsigned)lane.code,
-           (unsigned long)lane.job);
+           (unsigned long long)lane.job);
 }
 
 static void print_journal(const struct logged *log, size_t events)
 {
-    printf("\nJournal\nscan  lane     event       code   truck\n");
+    printf("\nJournal\nscan  lane     event       code         truck\n");
     for (size_t i = 0; i < events; i++) {
         const struct lane_event *event = &log[i].event;
-        printf("%4d  %-8s %-9s %6u %7lu\n", log[i].scan, blocks[event->position - 1].name,
-               event_names[event->kind], (unsigned)event->code, (unsigned long)event->job);
+        printf("%4d  %-8s %-9s %6u %13llu\n", log[i].scan, blocks[event->position - 1].name,
+               event_names[event->kind], (unsigned)event->code, (unsigned long long)event->job);
     }
 }
 

@@ -32,8 +32,8 @@
 /* Counts the changes after which a host must be compiled anew: another layout or length of a buffer, other
  * arguments of a function, another meaning of a number or an answer. What is only added doesn't count: a
  * function, a refusal, a kind. The archive doesn't hold it: a host that links a prebuilt one is compiled with
- * the header shipped beside it, and `#if LANE_ABI != 1` in its source then tells of a change. */
-#define LANE_ABI 1
+ * the header shipped beside it, and `#if LANE_ABI != 2` in its source then tells of a change. */
+#define LANE_ABI 2
 
 /* The most stack that a call takes, rounded up. */
 #define LANE_STACK_BYTES 1024
@@ -42,11 +42,11 @@
 #define LANE_HEADER_BYTES 4  /* header of a table */
 #define LANE_SLOT_BYTES 16   /* slot of a table */
 #define LANE_TAG_BYTES 8     /* tag of a slot */
-#define LANE_RECORD_BYTES 32 /* state record, one a block */
-#define LANE_ENTRY_BYTES 56  /* frame entry, one a block */
+#define LANE_RECORD_BYTES 40 /* state record, one a block */
+#define LANE_ENTRY_BYTES 64  /* frame entry, one a block */
 #define LANE_PIECE_BYTES 8   /* piece of a frame entry */
-#define LANE_REPORT_BYTES 12 /* report entry, one a block */
-#define LANE_EVENT_BYTES 8   /* journal event, at most two a block and scan */
+#define LANE_REPORT_BYTES 16 /* report entry, one a block */
+#define LANE_EVENT_BYTES 12  /* journal event, at most two a block and scan */
 
 /* The greatest number of slots, and so of blocks; and of the pieces of a frame entry. */
 #define LANE_MAX_BLOCKS 64
@@ -85,12 +85,12 @@ enum {
     LANE_AT_RECORD_STEP = 0,        /* 1  LANE_STEP_.. */
     LANE_AT_RECORD_FLAGS = 1,       /* 1  LANE_FLAG_.., one outside Dormant */
     LANE_AT_RECORD_REQUEST = 2,     /* 1  the reset request, 0 or 1 */
-    LANE_AT_RECORD_JOB = 4,         /* 4  the job taken at the start */
     LANE_AT_RECORD_CODE = 8,        /* 2  the error code, nonzero with the error flag */
     LANE_AT_RECORD_TIME_LIMIT = 12, /* 4  the time limit taken at the start, 0 for none */
     LANE_AT_RECORD_TIME_OUT = 16,   /* 4  the time-out taken at the start, 0 for none */
     LANE_AT_RECORD_READING = 20,    /* 4  the last clock reading */
-    LANE_AT_RECORD_ELAPSED = 24     /* 8  the time counted from the start on, at most 2^32 */
+    LANE_AT_RECORD_ELAPSED = 24,    /* 8  the time counted from the start on, at most 2^32 */
+    LANE_AT_RECORD_JOB = 32         /* 8  the job taken at the start */
 };
 
 /* A frame entry, at LANE_ENTRY_BYTES * (position - 1). The pieces are the job's work in this call, one reply
@@ -103,11 +103,11 @@ enum {
     LANE_AT_ENTRY_ABORT_REPLY = 2, /* 1  LANE_REPLY_.. of the abort action */
     LANE_AT_ENTRY_RESET_REPLY = 3, /* 1  LANE_REPLY_.. of the reset action, never an error */
     LANE_AT_ENTRY_ABORT_CODE = 4,  /* 2  2 to 65535 with an error as abort reply, else 0 */
-    LANE_AT_ENTRY_JOB = 8,         /* 4  the job, any number */
     LANE_AT_ENTRY_TIME_LIMIT = 12, /* 4  the time limit of a call, 0 for none */
     LANE_AT_ENTRY_TIME_OUT = 16,   /* 4  the time-out of a job, 0 for none */
     LANE_AT_ENTRY_CLOCK = 20,      /* 4  the clock at the call */
-    LANE_AT_ENTRY_PIECES = 24,     /*    the pieces; the offsets below are within one of them: */
+    LANE_AT_ENTRY_PIECES = 24,     /*    the pieces */
+    LANE_AT_ENTRY_JOB = 56,        /* 8  the job, any number; the offsets below are within a piece: */
     LANE_AT_PIECE_REPLY = 0,       /* 1  LANE_REPLY_.. of the piece */
     LANE_AT_PIECE_CODE = 2,        /* 2  2 to 65535 with an error as reply, else 0 */
     LANE_AT_PIECE_CLOCK = 4        /* 4  the clock after the piece */
@@ -120,7 +120,7 @@ enum {
     LANE_AT_REPORT_PASSES = 2, /* 1  the passes of the call, the stopping one included */
     LANE_AT_REPORT_STEP = 3,   /* 1  LANE_STEP_.. */
     LANE_AT_REPORT_CODE = 4,   /* 2  the error code, nonzero with the error flag */
-    LANE_AT_REPORT_JOB = 8     /* 4  the job */
+    LANE_AT_REPORT_JOB = 8     /* 8  the job */
 };
 
 /* A journal event. Those of one scan stand one after the other, in the order of the calls. */
@@ -128,7 +128,7 @@ enum {
     LANE_AT_EVENT_KIND = 0,     /* 1  LANE_EVENT_.. */
     LANE_AT_EVENT_POSITION = 1, /* 1  the block's position, from 1 */
     LANE_AT_EVENT_CODE = 2,     /* 2  the error code of a failed job, else 0 */
-    LANE_AT_EVENT_JOB = 4       /* 4  the job */
+    LANE_AT_EVENT_JOB = 4       /* 8  the job */
 };
 
 /* Kinds of blocks, by their PLCopen names: ETrig edge, LCon level; A abort input, TI time limit, TO
@@ -326,12 +326,12 @@ static inline const char *lane_refusal_text(uint64_t answer)
         return "a wire of it comes from a slot off the chain, has a code out of form, or is an abort "
                "wire on a kind without one";
     case LANE_REFUSED_SPARE: return "it is off the chain and not all zero";
-    case LANE_REFUSED_STATE_LENGTH: return "the state's length is not 32 bytes a block";
+    case LANE_REFUSED_STATE_LENGTH: return "the state's length is not 40 bytes a block";
     case LANE_REFUSED_STATE_UNSOUND: return "its state record is unsound";
-    case LANE_REFUSED_FRAME_LENGTH: return "the frame's length is not 56 bytes a block";
+    case LANE_REFUSED_FRAME_LENGTH: return "the frame's length is not 64 bytes a block";
     case LANE_REFUSED_FRAME_FORM: return "its frame entry is out of form";
-    case LANE_REFUSED_REPORT_LENGTH: return "the report's length is not 12 bytes a block";
-    case LANE_REFUSED_JOURNAL_LENGTH: return "the journal is shorter than 16 bytes a block";
+    case LANE_REFUSED_REPORT_LENGTH: return "the report's length is not 16 bytes a block";
+    case LANE_REFUSED_JOURNAL_LENGTH: return "the journal is shorter than 24 bytes a block";
     case LANE_REFUSED_LOOKUP_FORM:
         return "the tag to find is not one or more of A-Z, 0-9 and, except first, underscore, then spaces to "
                "eight bytes";
@@ -359,7 +359,7 @@ struct lane_record {
     uint8_t flags;
     uint8_t request;
     uint16_t code;
-    uint32_t job;
+    uint64_t job;
     uint32_t time_limit;
     uint32_t time_out;
     uint32_t reading;
@@ -378,7 +378,7 @@ struct lane_entry {
     uint8_t abort_reply;
     uint8_t reset_reply;
     uint16_t abort_code;
-    uint32_t job;
+    uint64_t job;
     uint32_t time_limit;
     uint32_t time_out;
     uint32_t clock;
@@ -391,14 +391,14 @@ struct lane_report {
     uint8_t passes;
     uint8_t step;
     uint16_t code;
-    uint32_t job;
+    uint64_t job;
 };
 
 struct lane_event {
     uint8_t kind;
     uint8_t position;
     uint16_t code;
-    uint32_t job;
+    uint64_t job;
 };
 
 /* Numbers in bytes, for the functions below. */
@@ -528,7 +528,7 @@ static inline struct lane_record lane_get_record(const uint8_t *state, uint32_t 
     got.flags = from[LANE_AT_RECORD_FLAGS];
     got.request = from[LANE_AT_RECORD_REQUEST];
     got.code = lane_get16(from + LANE_AT_RECORD_CODE);
-    got.job = lane_get32(from + LANE_AT_RECORD_JOB);
+    got.job = lane_get64(from + LANE_AT_RECORD_JOB);
     got.time_limit = lane_get32(from + LANE_AT_RECORD_TIME_LIMIT);
     got.time_out = lane_get32(from + LANE_AT_RECORD_TIME_OUT);
     got.reading = lane_get32(from + LANE_AT_RECORD_READING);
@@ -545,7 +545,7 @@ static inline void lane_put_record(uint8_t *state, uint32_t position, const stru
     to[LANE_AT_RECORD_FLAGS] = put->flags;
     to[LANE_AT_RECORD_REQUEST] = put->request;
     lane_put16(to + LANE_AT_RECORD_CODE, put->code);
-    lane_put32(to + LANE_AT_RECORD_JOB, put->job);
+    lane_put64(to + LANE_AT_RECORD_JOB, put->job);
     lane_put32(to + LANE_AT_RECORD_TIME_LIMIT, put->time_limit);
     lane_put32(to + LANE_AT_RECORD_TIME_OUT, put->time_out);
     lane_put32(to + LANE_AT_RECORD_READING, put->reading);
@@ -563,7 +563,7 @@ static inline struct lane_entry lane_get_entry(const uint8_t *frame, uint32_t po
     got.abort_reply = from[LANE_AT_ENTRY_ABORT_REPLY];
     got.reset_reply = from[LANE_AT_ENTRY_RESET_REPLY];
     got.abort_code = lane_get16(from + LANE_AT_ENTRY_ABORT_CODE);
-    got.job = lane_get32(from + LANE_AT_ENTRY_JOB);
+    got.job = lane_get64(from + LANE_AT_ENTRY_JOB);
     got.time_limit = lane_get32(from + LANE_AT_ENTRY_TIME_LIMIT);
     got.time_out = lane_get32(from + LANE_AT_ENTRY_TIME_OUT);
     got.clock = lane_get32(from + LANE_AT_ENTRY_CLOCK);
@@ -586,7 +586,7 @@ static inline void lane_put_entry(uint8_t *frame, uint32_t position, const struc
     to[LANE_AT_ENTRY_ABORT_REPLY] = put->abort_reply;
     to[LANE_AT_ENTRY_RESET_REPLY] = put->reset_reply;
     lane_put16(to + LANE_AT_ENTRY_ABORT_CODE, put->abort_code);
-    lane_put32(to + LANE_AT_ENTRY_JOB, put->job);
+    lane_put64(to + LANE_AT_ENTRY_JOB, put->job);
     lane_put32(to + LANE_AT_ENTRY_TIME_LIMIT, put->time_limit);
     lane_put32(to + LANE_AT_ENTRY_TIME_OUT, put->time_out);
     lane_put32(to + LANE_AT_ENTRY_CLOCK, put->clock);
@@ -606,7 +606,7 @@ static inline struct lane_report lane_get_report(const uint8_t *report, uint32_t
     got.passes = from[LANE_AT_REPORT_PASSES];
     got.step = from[LANE_AT_REPORT_STEP];
     got.code = lane_get16(from + LANE_AT_REPORT_CODE);
-    got.job = lane_get32(from + LANE_AT_REPORT_JOB);
+    got.job = lane_get64(from + LANE_AT_REPORT_JOB);
     return got;
 }
 
@@ -619,7 +619,7 @@ static inline void lane_put_report(uint8_t *report, uint32_t position, const str
     to[LANE_AT_REPORT_PASSES] = put->passes;
     to[LANE_AT_REPORT_STEP] = put->step;
     lane_put16(to + LANE_AT_REPORT_CODE, put->code);
-    lane_put32(to + LANE_AT_REPORT_JOB, put->job);
+    lane_put64(to + LANE_AT_REPORT_JOB, put->job);
 }
 
 /* The number counts the events of a journal from 1, up to what its scan answered. */
@@ -630,7 +630,7 @@ static inline struct lane_event lane_get_event(const uint8_t *journal, uint32_t 
     got.kind = from[LANE_AT_EVENT_KIND];
     got.position = from[LANE_AT_EVENT_POSITION];
     got.code = lane_get16(from + LANE_AT_EVENT_CODE);
-    got.job = lane_get32(from + LANE_AT_EVENT_JOB);
+    got.job = lane_get64(from + LANE_AT_EVENT_JOB);
     return got;
 }
 
@@ -640,7 +640,7 @@ static inline void lane_put_event(uint8_t *journal, uint32_t number, const struc
     to[LANE_AT_EVENT_KIND] = put->kind;
     to[LANE_AT_EVENT_POSITION] = put->position;
     lane_put16(to + LANE_AT_EVENT_CODE, put->code);
-    lane_put32(to + LANE_AT_EVENT_JOB, put->job);
+    lane_put64(to + LANE_AT_EVENT_JOB, put->job);
 }
 
 #ifdef __cplusplus

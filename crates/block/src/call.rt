@@ -52,18 +52,21 @@ impl CallResult {
         }
     }
 
-    // One pass more. Each result is built anew, not changed in place: docs/PERFORMANCE.md says why.
+    // One pass more. Each result is built anew, not changed in place, and the event field by field: docs/PERFORMANCE.md
+    // says why.
     fn add(self, p: Pass) -> CallResult
         requires { ⌜ (self .used + p .used < 256) × (self .passes < 255) ⌝ }
         ensures { λ a. ⌜ a ≡ withPass self p ⌝ }
     {
-        let event = p.event;
+        let kind = p.event.kind;
+        let code = p.event.code;
+        let job = p.event.job;
         let next = p.next;
         let first = self.first;
         let second = self.second;
         let used = self.used + p.used;
         let passes = self.passes + 1;
-        if event.kind == 0 {
+        if kind == 0 {
             return CallResult {
                 next,
                 first,
@@ -76,7 +79,7 @@ impl CallResult {
         if self.count == 0 {
             return CallResult {
                 next,
-                first: event,
+                first: Event { kind, code, job },
                 second,
                 count: 1,
                 used,
@@ -86,7 +89,7 @@ impl CallResult {
         CallResult {
             next,
             first,
-            second: event,
+            second: Event { kind, code, job },
             count: 2,
             used,
             passes,

@@ -24,7 +24,7 @@ pub struct Entry {
     pub abort_reply: u8,
     pub reset_reply: u8,
     pub abort_code: u16,
-    pub job: u32,
+    pub job: u64,
     pub limit: u32,
     pub timeout: u32,
     pub clock: u32,

@@ -7,7 +7,7 @@ ghost use Rattle.block.specs.Event.{noEvent, eventOf};
 pub struct Event {
     pub kind: u8,
     pub code: u16,
-    pub job: u32,
+    pub job: u64,
 }
 
 impl Event {

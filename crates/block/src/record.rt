@@ -15,7 +15,7 @@ pub struct Record {
     pub step: u8,
     pub flags: Flags,
     pub request: bool,
-    pub job: u32,
+    pub job: u64,
     pub code: u16,
     pub limit: u32,
     pub timeout: u32,

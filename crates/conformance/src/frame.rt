@@ -41,7 +41,7 @@ fn entry(
     start: bool,
     abort: bool,
     reply: u8,
-    job: u32,
+    job: u64,
     timeout: u32,
     clock: u32,
     piece: Piece,
@@ -69,7 +69,7 @@ fn entry(
 }
 
 // Start 1 with a job.
-pub fn with_job(job: u32, piece: Piece) -> Entry
+pub fn with_job(job: u64, piece: Piece) -> Entry
     ensures { λ e. ⌜ e ≡ withJob job piece ⌝ }
 {
     entry(true, false, Entry::WORKING, job, 0, 0, piece)
@@ -83,7 +83,7 @@ pub fn start_off(piece: Piece) -> Entry
 }
 
 // Start 1 with a job, and an abort that is complete.
-pub fn with_abort(job: u32, piece: Piece) -> Entry
+pub fn with_abort(job: u64, piece: Piece) -> Entry
     ensures { λ e. ⌜ e ≡ withAbort job piece ⌝ }
 {
     entry(true, true, Entry::COMPLETE, job, 0, 0, piece)

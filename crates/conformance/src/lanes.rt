@@ -1,4 +1,4 @@
-// LANE0 beside LANEO: two lanes with look-alike tags, each with its own truck. A job is the number of a truck.
+// LANE0 beside LANEO: two lanes with look-alike tags, each with its own truck. A job is the appointment number of a truck.
 use crate::frame::complete;
 use crate::frame::with_job;
 use crate::frame::working;
@@ -17,6 +17,15 @@ use layout::record::RECORD_BYTES;
 use layout::report::REPORT_BYTES;
 use table::check::Checked;
 use table::lookup::Found;
+
+// Appointment numbers that agree in their low four bytes.
+const FIRST_TRUCK: u64 = 1001;
+
+const SECOND_TRUCK: u64 = 4294967296 * 256 + FIRST_TRUCK;
+
+const THIRD_TRUCK: u64 = 4294967296 + FIRST_TRUCK;
+
+const FOURTH_TRUCK: u64 = 4294967296 * 4294967295 + FIRST_TRUCK;
 
 // Two blocks of kind 1: LANE0 in slot 1, LANEO in slot 2.
 fn image() -> [u8; 36] {
@@ -136,7 +145,7 @@ fn fresh_state() -> [u8; 2 * RECORD_BYTES] {
     state
 }
 
-// After the first scan the frame names the next trucks, 1003 and 1004, for which neither block is free yet.
+// After the first scan the frame names the next trucks, for which neither block is free yet.
 pub fn run() {
     found_line(b"LANE0   ");
     found_line(b"LANEO   ");
@@ -144,19 +153,19 @@ pub fn run() {
     scan(
         b"scan 1",
         &mut state,
-        with_job(1001, working(0)),
-        with_job(1002, working(0)),
+        with_job(FIRST_TRUCK, working(0)),
+        with_job(SECOND_TRUCK, working(0)),
     );
     scan(
         b"scan 2",
         &mut state,
-        with_job(1003, working(0)),
-        with_job(1004, complete(0)),
+        with_job(THIRD_TRUCK, working(0)),
+        with_job(FOURTH_TRUCK, complete(0)),
     );
     scan(
         b"scan 3",
         &mut state,
-        with_job(1003, complete(0)),
-        with_job(1004, working(0)),
+        with_job(THIRD_TRUCK, complete(0)),
+        with_job(FOURTH_TRUCK, working(0)),
     );
 }

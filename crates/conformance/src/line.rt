@@ -37,7 +37,7 @@ pub fn report_at(name: &[u8], s: &[u8], at: usize)
 {
     let r = read::report_at(s, at);
     report(name, r);
-    number(r.job as u64);
+    number(r.job);
 }
 
 // The first events of the journal.
@@ -60,7 +60,7 @@ pub fn call(name: &[u8], s: &[u8], journal: &[u8], count: usize)
 {
     let r = read::report_at(s, 0);
     report(name, r);
-    number_column(r.job as u64, 3);
+    number_column(r.job, 3);
     if count == 0 {
         print(b"-");
     }

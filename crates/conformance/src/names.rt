@@ -45,7 +45,7 @@ fn event_kind(kind: u8) {
 // The kind and the job, and the code of a failure.
 pub fn event(v: Event) {
     event_kind(v.kind);
-    number(v.job as u64);
+    number(v.job);
     if v.code != 0 {
         print(b" with code ");
         number(v.code as u64);

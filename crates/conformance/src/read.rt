@@ -15,7 +15,7 @@ pub struct Report {
     pub passes: u8,
     pub step: u8,
     pub code: u16,
-    pub job: u32,
+    pub job: u64,
 }
 
 // An event with the position of its block.
@@ -35,7 +35,7 @@ pub fn report_at(s: &[u8], at: usize) -> Report
         passes: s[at + report::PASSES_OFFSET],
         step: s[at + report::STEP_OFFSET],
         code: words::u16_at(s, at + report::CODE_OFFSET),
-        job: words::u32_at(s, at + report::JOB_OFFSET),
+        job: words::u64_at(s, at + report::JOB_OFFSET),
     }
 }
 
@@ -47,7 +47,7 @@ pub fn posted_at(s: &[u8], at: usize) -> Posted
     let event = Event {
         kind: s[at],
         code: words::u16_at(s, at + event::CODE_OFFSET),
-        job: words::u32_at(s, at + event::JOB_OFFSET),
+        job: words::u64_at(s, at + event::JOB_OFFSET),
     };
     Posted {
         position: s[at + event::POSITION_OFFSET],

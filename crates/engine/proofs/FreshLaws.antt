@@ -18,7 +18,7 @@ use Rattle.table.specs.declared.check.Checked.the-variants.{Blocks, Refused}
 use Rattle.layout.specs.Buffer.{recordLength, part}
 use Rattle.layout.specs.RecordLayout.{decodeRecord, recordForm}
 use Rattle.layout.proofs.BufferLaws.{part-zeros}
-use Rattle.layout.proofs.RecordLaws.{decode-fresh}
+use Rattle.layout.proofs.RecordLaws.{fresh-form, decode-fresh}
 use Rattle.block.specs.Record.{freshRecord}
 use Rattle.engine.specs.Fresh.{freshOf}
 use Rattle.engine.specs.Serve.{recordIn}
@@ -67,5 +67,4 @@ zeros-fresh n j = go (decLt j n)
     go (no m) = ap decodeRecord (zeros-past n j (omega arith))
 
 pub zeros-form : (n j : ℕ) → j < n → recordForm (part recordLength j (replicate (recordLength * n) 0)) ≡ true
-unfolding recordForm
-zeros-form n j l = ap recordForm (zeros-part n j l)
+zeros-form n j l = ap recordForm (zeros-part n j l) ∙ fresh-form

@@ -7,7 +7,7 @@ use Rattle.table.specs.Place.{Answer, value, refusal}
 use Rattle.table.specs.Check.{checkedAnswer}
 use Rattle.table.specs.Refusals.{Row, _gives_, AnswersAll, image}
 use Rattle.block.specs.Record.{Executing, Done, Error, Aborting, Aborted, Resetting, TimedOut}
-use Rattle.layout.specs.Buffer.{recordLength, entryLength, reportLength, eventLength}
+use Rattle.layout.specs.Buffer.{recordLength, entryLength, reportLength, eventLength, jobWidth, put}
 use Rattle.layout.specs.RecordLayout.{recordOffset}
 use Rattle.layout.specs.EntryLayout.{entryOffset, pieceOffset, pieceField}
 use Rattle.engine.specs.Fresh.{freshOf}
@@ -104,7 +104,7 @@ piece at reply = set (set (input .frame) (at + entryOffset .count) 1) (at + piec
 unfoldable pub freshRows : List (Row (List ℕ))
 freshRows =
     replicate (2 * recordLength) 255 gives value 2
-    -- 20: length not 32 × blocks
+    -- 20: length not 40 × blocks
     ∷ [] gives refusal 20 0
     ∷ replicate recordLength 0 gives refusal 20 0
     ∷ replicate (2 * recordLength + 1) 0 gives refusal 20 0
@@ -116,10 +116,25 @@ edgeBounds =
     map (λ (kind : ℕ). ofKinds kind 9 (set (recordOf 0 Executing busy) (recordOffset .limit) 9) gives value 1) (2 ∷ 4 ∷ 6 ∷ 8 ∷ [])
     ++ map (λ (kind : ℕ). ofKinds kind 9 (set (recordOf 0 Executing busy) (recordOffset .timeout) 9) gives value 1) (3 ∷ 4 ∷ 7 ∷ 8 ∷ [])
 
+-- the bytes of a number, from the first
+abbrev fourBytes : List ℕ
+fourBytes = 0 ∷ 1 ∷ 2 ∷ 3 ∷ []
+
+abbrev eightBytes : List ℕ
+eightBytes = 0 ∷ 1 ∷ 2 ∷ 3 ∷ 4 ∷ 5 ∷ 6 ∷ 7 ∷ []
+
+-- 02, 3/14: "job in 32-39, bytes 4-7 zero": each of them, not zero, in a Dormant record and in one that is Executing
+abbrev longRecords : List (Row ScanInput)
+longRecords =
+    map (λ (i : ℕ). inState (recordOffset .job + i) 1 gives refusal 21 1) eightBytes
+    ++ map (λ (i : ℕ). withState (set (recordOf 0 Executing busy) (recordOffset .job + i) 1) gives value 1) eightBytes
+    ++ map (λ (i : ℕ). inState (secondRecord + recordOffset .unnamedWord + i) 1 gives refusal 21 2) fourBytes
+    ++ map (λ (i : ℕ). withState (set (recordOf 0 Executing busy) (recordOffset .unnamedWord + i) 1) gives refusal 21 1) fourBytes
+
 unfoldable pub stateRows : List (Row ScanInput)
 stateRows =
     input gives value 1
-    -- 20: length not 32 × blocks
+    -- 20: length not 40 × blocks
     ∷ withState [] gives refusal 20 0
     ∷ withState (take recordLength (input .state)) gives refusal 20 0
     ∷ withState (input .state ++ (0 ∷ [])) gives refusal 20 0
@@ -147,6 +162,9 @@ stateRows =
     ∷ withState (set (recordOf 0 Executing busy) (recordOffset .unnamed) 1) gives refusal 21 1
     ∷ withState (set (recordOf 0 Executing busy) (recordOffset .unnamedPair) 1) gives refusal 21 1
     ∷ withState (set (recordOf 0 Executing busy) (recordOffset .unnamedPair + 1) 1) gives refusal 21 1
+    -- "Job and reading are free.": all ones
+    ∷ withState (put (recordOffset .job) (replicate jobWidth 255) (recordOf 0 Executing busy)) gives value 1
+    ∷ withState (put (recordOffset .last) (replicate 4 255) (recordOf 0 Executing busy)) gives value 1
     -- Aborting too, on kinds 5 to 14
     ∷ withState (recordOf 0 Aborting busy) gives value 1
     ∷ withState (recordOf 0 Aborting (busy + done)) gives refusal 21 1
@@ -202,16 +220,24 @@ stateRows =
     -- the first position
     ∷ withState (set (set (input .state) (recordOffset .job) 1) (secondRecord + recordOffset .job) 1) gives refusal 21 1
     ∷ edgeBounds
+    ++ longRecords
 
 -- each byte of the piece after the last one, and of the fourth, not zero
 abbrev pastCount : List (Row ScanInput)
 pastCount =
-    map (λ (i : ℕ). withFrame (set (piece 0 1) (pieceOffset 1 + i) 1) gives refusal 31 1) (0 ∷ 1 ∷ 2 ∷ 3 ∷ 4 ∷ 5 ∷ 6 ∷ 7 ∷ [])
-    ++ map (λ (i : ℕ). inFrame (secondEntry + pieceOffset 3 + i) 1 gives refusal 31 2) (0 ∷ 1 ∷ 2 ∷ 3 ∷ 4 ∷ 5 ∷ 6 ∷ 7 ∷ [])
+    map (λ (i : ℕ). withFrame (set (piece 0 1) (pieceOffset 1 + i) 1) gives refusal 31 1) eightBytes
+    ++ map (λ (i : ℕ). inFrame (secondEntry + pieceOffset 3 + i) 1 gives refusal 31 2) eightBytes
+
+-- 02, 3/14: "job in 56-63, bytes 8-11 zero": each of them, not zero
+abbrev longEntries : List (Row ScanInput)
+longEntries =
+    map (λ (i : ℕ). inFrame (secondEntry + entryOffset .job + i) 255 gives value 1) eightBytes
+    ++ map (λ (i : ℕ). inFrame (entryOffset .unnamedWord + i) 1 gives refusal 31 1) fourBytes
+    ++ map (λ (i : ℕ). withFrame (set (piece secondEntry 1) (secondEntry + entryOffset .unnamedWord + i) 255) gives refusal 31 2) fourBytes
 
 unfoldable pub frameRows : List (Row ScanInput)
 frameRows =
-    -- 30: length not 56 × blocks
+    -- 30: length not 64 × blocks
     withFrame [] gives refusal 30 0
     ∷ withFrame (take entryLength (input .frame)) gives refusal 30 0
     ∷ withFrame (input .frame ++ (0 ∷ [])) gives refusal 30 0
@@ -239,7 +265,7 @@ frameRows =
     ∷ inFrame (entryOffset .unnamedPair) 1 gives refusal 31 1
     ∷ inFrame (secondEntry + entryOffset .unnamedPair + 1) 1 gives refusal 31 2
     -- job, limit, time-out and clock are free
-    ∷ inFrame (entryOffset .job) 255 gives value 1
+    ∷ withFrame (put (entryOffset .job) (replicate jobWidth 255) (input .frame)) gives value 1
     ∷ inFrame (entryOffset .limit) 255 gives value 1
     ∷ inFrame (entryOffset .timeout) 255 gives value 1
     ∷ inFrame (entryOffset .clock) 255 gives value 1
@@ -258,14 +284,15 @@ frameRows =
     ∷ withFrame (set (set (piece 0 1) (entryOffset .count) 4) (pieceOffset 3 + pieceField .unnamed) 1) gives refusal 31 1
     ∷ withFrame (set (set (piece 0 1) (entryOffset .count) 4) (pieceOffset 3 + pieceField .clock) 1) gives value 1
     ∷ pastCount
+    ++ longEntries
 
 unfoldable pub bufferRows : List (Row ScanInput)
 bufferRows =
-    -- 40: length not 12 × blocks
+    -- 40: length not 16 × blocks
     withReport [] gives refusal 40 0
     ∷ withReport (take reportLength (input .report)) gives refusal 40 0
     ∷ withReport (input .report ++ (0 ∷ [])) gives refusal 40 0
-    -- 41: length under 16 × blocks
+    -- 41: length under 24 × blocks
     ∷ withJournal [] gives refusal 41 0
     ∷ withJournal (replicate (4 * eventLength - 1) 0) gives refusal 41 0
     ∷ withJournal (input .journal ++ (0 ∷ [])) gives value 1

@@ -1,4 +1,4 @@
--- Document 01, "Turned back": checks 20 to 41, from the top down.
+-- Document 01, "Turned back": checks 20 to 41, from the top down; document 02, 3/14: "Numbers 20, 30 and 40 use the new lengths".
 use Prim.Native.Nat.{ℕ, suc, _*_}
 use mathlib.Core.List.{List, [], _∷_}
 use lib.Dec.{eqb, leb}
@@ -13,7 +13,7 @@ use Rattle.layout.specs.RecordLayout.{soundBytes}
 use Rattle.layout.specs.EntryLayout.{entryBytes}
 use Rattle.engine.specs.Told.{Told}
 
--- 20: "length not 32 × blocks"
+-- 20: "length not" 40 "× blocks"
 abbrev pub stateLength : List Block → List ℕ → Verdict → Verdict
 stateLength blocks state below = require (eqb (length state) (recordLength * length blocks)) 20 Header below
 
@@ -26,7 +26,7 @@ stateSound i (b ∷ bs) state = require (soundBytes (b .kind) (part recordLength
 abbrev pub stateCheck : List Block → List ℕ → Verdict
 stateCheck blocks state = stateLength blocks state (stateSound 0 blocks state)
 
--- 30: "length not 56 × blocks"
+-- 30: "length not" 64 "× blocks"
 abbrev pub frameLength : List Block → List ℕ → Verdict → Verdict
 frameLength blocks frame below = require (eqb (length frame) (entryLength * length blocks)) 30 Header below
 
@@ -39,11 +39,11 @@ frameForm i (b ∷ bs) frame = require (entryBytes (part entryLength i frame)) 3
 abbrev pub frameCheck : List Block → List ℕ → Verdict
 frameCheck blocks frame = frameLength blocks frame (frameForm 0 blocks frame)
 
--- 40: "length not 12 × blocks"
+-- 40: "length not" 16 "× blocks"
 abbrev pub reportLengthIs : List Block → List ℕ → Verdict → Verdict
 reportLengthIs blocks report below = require (eqb (length report) (reportLength * length blocks)) 40 Header below
 
--- 41: "length under 16 × blocks": two events a block
+-- "41 means under 24 × blocks": two events a block
 abbrev pub journalLength : List Block → List ℕ → Verdict → Verdict
 journalLength blocks journal below = require (leb (2 * eventLength * length blocks) (length journal)) 41 Header below
 

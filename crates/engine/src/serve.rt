@@ -56,7 +56,7 @@ fn call_at(kind: u8, inputs: Inputs, i: usize, frame: &[u8], state: &[u8]) -> Ca
     block::call::call(kind, inputs, e, r)
 }
 
-// The block's own twelve bytes of the report become the entry of a call.
+// The block's own part of the report becomes the entry of a call.
 fn report_call(report: &mut [u8], i: usize, a: CallResult)
     requires { ⌜ reportLength * i + reportLength ≤ length (now report) ⌝ }
     ensures { λ _. ⌜ now (report .exit) ≡ put (reportLength * i) (encodeReport (outcomeOf a)) (now (report .entry)) ⌝ }

@@ -1,16 +1,16 @@
 -- Frame entries as bytes, and back: each undoes the other, and what is read fits its bytes. For the engine, which reads entries from the frame,
 -- and for programs that build frames.
-use Prim.Native.Nat.{ℕ, suc, _+_, _*_, _<_, _≤_}
+use Prim.Native.Nat.{ℕ, suc, _+_, _-_, _*_, _<_, _≤_}
 use mathlib.Core.Path.{_≡_, refl, ap, sym, _∙_}
 use mathlib.Core.Bool.{Bool, true}
 use mathlib.Core.List.{List, [], _∷_, _++_, append-assoc, append-nil}
 use native.Mathlib.Omega.{arith}
 use lib.Dec.{eqb, ltb}
-use lib.ListN.{length, getD, take, drop, drop-of-length-le, take-append-drop, length-append}
-use lib.Seq.{length-take-le, take-at, drop-at, drop-drop}
+use lib.ListN.{length, getD, take, drop, take-append-drop, length-append, length-drop}
+use lib.Seq.{length-take-le, take-all, take-at, drop-at, drop-drop}
 use borrow.Author.Tests.{ltb-true, eqb-true, lt-ltb}
 use Rattle.words.specs.Word.{Bytes, number, bytes, numberAt}
-use Rattle.words.proofs.WordLaws.{number-of-bytes}
+use Rattle.words.proofs.WordLaws.{length-bytes, number-of-bytes}
 use Rattle.block.specs.Entry.{mostPieces, entryFits}
 use Rattle.block.specs.declared.entry.Piece.{Piece}
 use Rattle.block.specs.declared.entry.Entry.{Entry}
@@ -22,26 +22,55 @@ use Rattle.layout.proofs.BitLaws.{inputs-bound, inputs-trip, inputs-bac
 use Rattle.layout.proofs.BufferLaws.{fill-whole}
 use Rattle.membership.proofs.Logic.{and-right, and-join}
 use Rattle.block.proofs.Tests.{each}
-use Rattle.layout.proofs.FieldLaws.{field-bound, field-back, byte-back}
+use Rattle.layout.proofs.FieldLaws.{field-bound, field-back, field-last, zero-back, byte-back}
 
 -- four pieces read back
 piece-trip : (p : Piece) → PieceFits p → _≡_ {A = Piece} (record { reply = p .reply; code = number (bytes 2 (p .code)); clock = number (bytes 4 (p .clock)) }) p
 piece-trip p h =
     λ i. record { reply = p .reply; code = number-of-bytes 2 (p .code) (h .code) i; clock = number-of-bytes 4 (p .clock) (h .clock) i }
 
-abbrev piece-of : List Piece → ℕ → Piece
-piece-of ps i = decodePiece (encodePieces ps) (pieceLength * i)
+-- whatever stands after them
+module _ (rest : List ℕ) where
+  abbrev piece-of : List Piece → ℕ → Piece
+  piece-of ps i = decodePiece (encodePieces ps ++ rest) (pieceLength * i)
 
-pieces-trip : (ps : List Piece) → length ps ≡ mostPieces → All PieceFits ps
-    → piece-of ps 0 ∷ piece-of ps 1 ∷ piece-of ps 2 ∷ piece-of ps 3 ∷ [] ≡ ps
+  pieces-trip : (ps : List Piece) → length ps ≡ mostPieces → All PieceFits ps
+      → piece-of ps 0 ∷ piece-of ps 1 ∷ piece-of ps 2 ∷ piece-of ps 3 ∷ [] ≡ ps
+  unfolding encodePieces bytes
+  pieces-trip ps l nil = absurd (omega arith)
+  pieces-trip ps l (cons h nil) = absurd (omega arith)
+  pieces-trip ps l (cons h (cons i nil)) = absurd (omega arith)
+  pieces-trip ps l (cons h (cons i (cons j nil))) = absurd (omega arith)
+  pieces-trip ps l (cons {x = p} h (cons {x = q} i (cons {x = r} j (cons {x = s} k nil)))) =
+      λ t. piece-trip p h t ∷ piece-trip q i t ∷ piece-trip r j t ∷ piece-trip s k t ∷ []
+  pieces-trip ps l (cons h (cons i (cons j (cons k (cons m a))))) = absurd (omega arith)
+
+-- how long they are
+pieces-length : (ps : List Piece) → length ps ≡ mostPieces → length (encodePieces ps) ≡ pieceLength * mostPieces
 unfolding encodePieces bytes
-pieces-trip ps l nil = absurd (omega arith)
-pieces-trip ps l (cons h nil) = absurd (omega arith)
-pieces-trip ps l (cons h (cons i nil)) = absurd (omega arith)
-pieces-trip ps l (cons h (cons i (cons j nil))) = absurd (omega arith)
-pieces-trip ps l (cons {x = p} h (cons {x = q} i (cons {x = r} j (cons {x = s} k nil)))) =
-    λ t. piece-trip p h t ∷ piece-trip q i t ∷ piece-trip r j t ∷ piece-trip s k t ∷ []
-pieces-trip ps l (cons h (cons i (cons j (cons k (cons m a))))) = absurd (omega arith)
+pieces-length [] l = absurd (omega arith)
+pieces-length (p ∷ []) l = absurd (omega arith)
+pieces-length (p ∷ q ∷ []) l = absurd (omega arith)
+pieces-length (p ∷ q ∷ r ∷ []) l = absurd (omega arith)
+pieces-length (p ∷ q ∷ r ∷ s ∷ []) l = refl
+pieces-length (p ∷ q ∷ r ∷ s ∷ t ∷ ps) l = absurd (omega arith)
+
+-- the job read back after them
+after-head : (e : Entry) → drop headLength (encodeEntry e) ≡ encodePieces (e .pieces) ++ bytes jobWidth (e .job)
+unfolding encodeEntry bytes
+after-head e = refl
+
+after-pieces : (e : Entry) → length (e .pieces) ≡ mostPieces → drop (entryOffset .job) (encodeEntry e) ≡ bytes jobWidth (e .job)
+after-pieces e l =
+    sym (drop-drop (pieceLength * mostPieces) headLength (encodeEntry e))
+    ∙ ap (drop (pieceLength * mostPieces)) (after-head e)
+    ∙ drop-at (encodePieces (e .pieces)) (bytes jobWidth (e .job)) (pieceLength * mostPieces) (pieces-length (e .pieces) l)
+
+job-trip : (e : Entry) → EntryFits e → numberAt jobWidth (encodeEntry e) (entryOffset .job) ≡ e .job
+job-trip e h =
+    ap (λ (x : List ℕ). number (take jobWidth x)) (after-pieces e (h .four))
+    ∙ ap number (take-all jobWidth (bytes jobWidth (e .job)) (omega (arith, length-bytes jobWidth (e .job))))
+    ∙ number-of-bytes jobWidth (e .job) (h .job)
 
 pub decode-encode : (e : Entry) → EntryFits e → decodeEntry (encodeEntry e) ≡ e
 unfolding encodeEntry decodeEntry bytes
@@ -52,18 +81,18 @@ decode-encode e h =
       «abort_reply» = e .«abort_reply»;
       «reset_reply» = e .«reset_reply»;
       «abort_code» = number-of-bytes 2 (e .«abort_code») (h .abortCode) i;
-      job = number-of-bytes jobWidth (e .job) (h .job) i;
+      job = job-trip e h i;
       limit = number-of-bytes 4 (e .limit) (h .limit) i;
       timeout = number-of-bytes 4 (e .timeout) (h .timeout) i;
       clock = number-of-bytes 4 (e .clock) (h .clock) i;
-      pieces = pieces-trip (e .pieces) (h .four) (h .pieces) i;
+      pieces = pieces-trip (bytes jobWidth (e .job)) (e .pieces) (h .four) (h .pieces) i;
     }
 
 -- what the form of the bytes says
 pub record FormBytes (s : List ℕ) : Type 0 where
   pub inputs : byteAt s (entryOffset .inputs) < 4
-  pub pairFirst : byteAt s (entryOffset .unnamedPair) ≡ 0
-  pub pairSecond : byteAt s (entryOffset .unnamedPair + 1) ≡ 0
+  pub pair : numberAt 2 s (entryOffset .unnamedPair) ≡ 0
+  pub word : numberAt 4 s (entryOffset .unnamedWord) ≡ 0
   pub first : byteAt s (pieceOffset 0 + pieceField .unnamed) ≡ 0
   pub second : byteAt s (pieceOffset 1 + pieceField .unnamed) ≡ 0
   pub third : byteAt s (pieceOffset 2 + pieceField .unnamed) ≡ 0
@@ -73,15 +102,15 @@ pub form-bytes : (s : List ℕ) → entryForm s ≡ true → FormBytes s
 unfolding entryForm
 form-bytes s h =
     let inputs = byteAt s (entryOffset .inputs) in
-    let first = byteAt s (entryOffset .unnamedPair) in
-    let second = byteAt s (entryOffset .unnamedPair + 1) in
+    let pair = numberAt 2 s (entryOffset .unnamedPair) in
+    let word = numberAt 4 s (entryOffset .unnamedWord) in
     let z : ℕ → Bool = λ i. pieceZero s (pieceOffset i) in
     let at : ℕ → ℕ = λ i. byteAt s (pieceOffset i + pieceField .unnamed) in
-    let p = each (ltb inputs 4) (eqb first 0 ∷ eqb second 0 ∷ z 0 ∷ z 1 ∷ z 2 ∷ z 3 ∷ []) h in
+    let p = each (ltb inputs 4) (eqb pair 0 ∷ eqb word 0 ∷ z 0 ∷ z 1 ∷ z 2 ∷ z 3 ∷ []) h in
     record {
       inputs = ltb-true inputs 4 (p .0);
-      pairFirst = eqb-true first 0 (p .1 .0);
-      pairSecond = eqb-true second 0 (p .1 .1 .0);
+      pair = eqb-true pair 0 (p .1 .0);
+      word = eqb-true word 0 (p .1 .1 .0);
       first = eqb-true (at 0) 0 (p .1 .1 .1 .0);
       second = eqb-true (at 1) 0 (p .1 .1 .1 .1 .0);
       third = eqb-true (at 2) 0 (p .1 .1 .1 .1 .1 .0);
@@ -103,25 +132,32 @@ piece-back i s rest b h z e =
     append-assoc code clock rest ∙ field-back 2 (i + pieceField .code) s (clock ++ rest) b (omega arith) (rw e₄ two) in
     byte-back i (byteAt s i) s _ (omega arith) refl (byte-back (suc i) 0 s _ (omega arith) (sym (rw e₁ at z)) (rw e₂ three))
 
+-- four pieces, and the rest
+regroup : (a b c d x : List ℕ) → a ++ (b ++ (c ++ (d ++ []))) ++ x ≡ a ++ (b ++ (c ++ (d ++ x)))
+regroup a b c d x = simp (append-assoc, append-nil)
+
 pub encode-decode : (s : List ℕ) → length s ≡ entryLength → Bytes s → entryForm s ≡ true → encodeEntry (decodeEntry s) ≡ s
 unfolding encodeEntry decodeEntry encodePieces
 encode-decode s l b h =
     let f = form-bytes s h in
+    let p : ℕ → List ℕ = λ i. encodePiece (decodePiece s (pieceOffset i)) in
+    let job : List ℕ = bytes jobWidth (numberAt jobWidth s (entryOffset .job)) in
     byte-back (entryOffset .inputs) _ s _ (omega arith) (inputs-back (byteAt s (entryOffset .inputs)) (f .inputs))
     (byte-back (entryOffset .count) _ s _ (omega arith) refl
     (byte-back (entryOffset .abortReply) _ s _ (omega arith) refl
     (byte-back (entryOffset .resetReply) _ s _ (omega arith) refl
     (field-back 2 (entryOffset .abortCode) s _ b (omega arith)
-    (byte-back (entryOffset .unnamedPair) _ s _ (omega arith) (sym (f .pairFirst))
-    (byte-back (entryOffset .unnamedPair + 1) _ s _ (omega arith) (sym (f .pairSecond))
-    (field-back jobWidth (entryOffset .job) s _ b (omega arith)
+    (zero-back 2 (entryOffset .unnamedPair) s _ (f .pair) (omega arith)
+    (zero-back 4 (entryOffset .unnamedWord) s _ (f .word) (omega arith)
     (field-back 4 (entryOffset .limit) s _ b (omega arith)
     (field-back 4 (entryOffset .timeout) s _ b (omega arith)
     (field-back 4 (entryOffset .clock) s _ b (omega arith)
-    (piece-back (pieceOffset 0) s _ b (omega arith) (f .first)
+    (regroup (p 0) (p 1) (p 2) (p 3) job
+    ∙ piece-back (pieceOffset 0) s _ b (omega arith) (f .first)
     (piece-back (pieceOffset 1) s _ b (omega arith) (f .second)
     (piece-back (pieceOffset 2) s _ b (omega arith) (f .third)
-    (piece-back (pieceOffset 3) s [] b (omega arith) (f .fourth) (sym (drop-of-length-le s {i = piecesEnd} (omega arith)))))))))))))))))
+    (piece-back (pieceOffset 3) s _ b (omega arith) (f .fourth)
+    (field-last jobWidth (entryOffset .job) s b l))))))))))))))
 
 -- what is read fits
 piece-fits : (i : ℕ) (s : List ℕ) → Bytes s → PieceFits (decodePiece s i)
@@ -146,37 +182,30 @@ decode-fits s b =
     }
 
 -- what is written: its length, in form
-pieces-length : (ps : List Piece) → length ps ≡ mostPieces → length (encodePieces ps) ≡ pieceLength * mostPieces
-unfolding encodePieces bytes
-pieces-length [] l = absurd (omega arith)
-pieces-length (p ∷ []) l = absurd (omega arith)
-pieces-length (p ∷ q ∷ []) l = absurd (omega arith)
-pieces-length (p ∷ q ∷ r ∷ []) l = absurd (omega arith)
-pieces-length (p ∷ q ∷ r ∷ s ∷ []) l = refl
-pieces-length (p ∷ q ∷ r ∷ s ∷ t ∷ ps) l = absurd (omega arith)
-
 pub encode-length : (e : Entry) → length (e .pieces) ≡ mostPieces → length (encodeEntry e) ≡ entryLength
-unfolding encodeEntry bytes
-encode-length e l = omega (arith, pieces-length (e .pieces) l)
+encode-length e l =
+    let n : length (drop (entryOffset .job) (encodeEntry e)) ≡ jobWidth = ap length (after-pieces e l) ∙ length-bytes jobWidth (e .job) in
+    omega (arith, n, length-drop (entryOffset .job) (encodeEntry e))
 
 -- the zero byte of each of four pieces
-abbrev zero-of : List Piece → ℕ → ℕ
-zero-of ps i = byteAt (encodePieces ps) (pieceLength * i + pieceField .unnamed)
+module _ (rest : List ℕ) where
+  abbrev zero-of : List Piece → ℕ → ℕ
+  zero-of ps i = byteAt (encodePieces ps ++ rest) (pieceLength * i + pieceField .unnamed)
 
-pieces-form : (ps : List Piece) → length ps ≡ mostPieces
-    → (zero-of ps 0 ≡ 0) × (zero-of ps 1 ≡ 0) × (zero-of ps 2 ≡ 0) × (zero-of ps 3 ≡ 0)
-unfolding encodePieces bytes
-pieces-form [] l = absurd (omega arith)
-pieces-form (p ∷ []) l = absurd (omega arith)
-pieces-form (p ∷ q ∷ []) l = absurd (omega arith)
-pieces-form (p ∷ q ∷ r ∷ []) l = absurd (omega arith)
-pieces-form (p ∷ q ∷ r ∷ s ∷ []) l = (refl, refl, refl, refl)
-pieces-form (p ∷ q ∷ r ∷ s ∷ t ∷ ps) l = absurd (omega arith)
+  pieces-form : (ps : List Piece) → length ps ≡ mostPieces
+      → (zero-of ps 0 ≡ 0) × (zero-of ps 1 ≡ 0) × (zero-of ps 2 ≡ 0) × (zero-of ps 3 ≡ 0)
+  unfolding encodePieces bytes
+  pieces-form [] l = absurd (omega arith)
+  pieces-form (p ∷ []) l = absurd (omega arith)
+  pieces-form (p ∷ q ∷ []) l = absurd (omega arith)
+  pieces-form (p ∷ q ∷ r ∷ []) l = absurd (omega arith)
+  pieces-form (p ∷ q ∷ r ∷ s ∷ []) l = (refl, refl, refl, refl)
+  pieces-form (p ∷ q ∷ r ∷ s ∷ t ∷ ps) l = absurd (omega arith)
 
 pub encode-form : (e : Entry) → length (e .pieces) ≡ mostPieces → entryForm (encodeEntry e) ≡ true
-unfolding entryForm encodeEntry bytes
+unfolding entryForm encodeEntry bytes number
 encode-form e l =
-    let z = pieces-form (e .pieces) l in
+    let z = pieces-form (bytes jobWidth (e .job)) (e .pieces) l in
     rw (lt-ltb (inputsByte (e .inputs)) 4 (inputs-bound (e .inputs)), z .0, z .1, z .2, z .3)
 
 -- four pieces put one by one
@@ -197,8 +226,8 @@ piece-length p = refl
 grown : (n : ℕ) (l : List ℕ) (p : Piece) → length l ≡ n → length (l ++ encodePiece p) ≡ n + pieceLength
 grown n l p h = length-append l (encodePiece p) ∙ omega (arith, piece-length p)
 
-regroup : (h a b c d x : List ℕ) → h ++ a ++ b ++ c ++ d ++ x ≡ h ++ (a ++ (b ++ (c ++ (d ++ []))) ++ x)
-regroup h a b c d x = simp (append-assoc, append-nil)
+after-four : (h a b c d x : List ℕ) → h ++ a ++ b ++ c ++ d ++ x ≡ h ++ (a ++ (b ++ (c ++ (d ++ []))) ++ x)
+after-four h a b c d x = simp (append-assoc, append-nil)
 
 pub pieces-put : (z : Piece) (ps : List Piece) (s s₁ s₂ s₃ s₄ : List ℕ) → length ps ≡ mostPieces → piecesEnd ≤ length s
     → s₁ ≡ put (pieceOffset 0) (encodePiece (getD ps 0 z)) s
@@ -221,29 +250,36 @@ pieces-put z ps s s₁ s₂ s₃ s₄ l f e₁ e₂ e₃ e₄ =
     let g₂ = fill-whole (pieceOffset 1) pieceLength (h ++ a) b s s₁ s₂ l₁ (piece-length (p 1)) g₁ e₂ in
     let g₃ = fill-whole (pieceOffset 2) pieceLength (h ++ a ++ b) c s s₂ s₃ l₂ (piece-length (p 2)) g₂ e₃ in
     let g₄ = fill-whole (pieceOffset 3) pieceLength (h ++ a ++ b ++ c) d s s₃ s₄ l₃ (piece-length (p 3)) g₃ e₄ in
-    g₄ ∙ regroup h a b c d (drop piecesEnd s) ∙ ap (λ (x : List ℕ). h ++ (x ++ drop piecesEnd s)) (pieces-parts z ps l)
+    g₄ ∙ after-four h a b c d (drop piecesEnd s) ∙ ap (λ (x : List ℕ). h ++ (x ++ drop piecesEnd s)) (pieces-parts z ps l)
 
--- the head, and the pieces put after it
+-- the pieces and the job put after the head, and all three
+pub tail-put : (ps : List Piece) (job : ℕ) (s s₁ s₂ : List ℕ) → length ps ≡ mostPieces → entryLength ≤ length s
+    → s₁ ≡ take headLength s ++ (encodePieces ps ++ drop piecesEnd s) → s₂ ≡ put (entryOffset .job) (bytes jobWidth job) s₁
+    → s₂ ≡ take headLength s ++ (encodePieces ps ++ bytes jobWidth job ++ drop entryLength s)
+tail-put ps job s s₁ s₂ l f e₁ e₂ =
+    let h : List ℕ = take headLength s in
+    let p : List ℕ = encodePieces ps in
+    let j : List ℕ = bytes jobWidth job in
+    let to : length (h ++ p) ≡ piecesEnd = length-append h p ∙ omega (arith, length-take-le headLength s (omega arith), pieces-length ps l) in
+    fill-whole piecesEnd jobWidth (h ++ p) j s s₁ s₂ to (length-bytes jobWidth job) (e₁ ∙ sym (append-assoc h p (drop piecesEnd s))) e₂
+    ∙ simp append-assoc
+
 head-length : (e : Entry) → length (take headLength (encodeEntry e)) ≡ headLength
 unfolding encodeEntry bytes
 head-length e = refl
 
-after-head : (e : Entry) → drop headLength (encodeEntry e) ≡ encodePieces (e .pieces)
-unfolding encodeEntry bytes
-after-head e = refl
-
 pub entry-put : (e : Entry) (s s₁ s₂ : List ℕ) → s₁ ≡ take headLength (encodeEntry e) ++ drop headLength s
-    → s₂ ≡ take headLength s₁ ++ (encodePieces (e .pieces) ++ drop piecesEnd s₁) → s₂ ≡ encodeEntry e ++ drop entryLength s
+    → s₂ ≡ take headLength s₁ ++ (encodePieces (e .pieces) ++ bytes jobWidth (e .job) ++ drop entryLength s₁) → s₂ ≡ encodeEntry e ++ drop entryLength s
 entry-put e s s₁ s₂ e₁ e₂ =
     let n : ℕ = headLength in
-    let m : ℕ = pieceLength * mostPieces in
+    let m : ℕ = entryLength - headLength in
     let h : List ℕ = take n (encodeEntry e) in
+    let tail : List ℕ = encodePieces (e .pieces) ++ bytes jobWidth (e .job) in
     let front : take n s₁ ≡ h = ap (take n) e₁ ∙ take-at h (drop n s) n (head-length e) in
     let back : drop (n + m) s₁ ≡ drop (n + m) s =
     sym (drop-drop m n s₁) ∙ ap (drop m) (ap (drop n) e₁ ∙ drop-at h (drop n s) n (head-length e)) ∙ drop-drop m n s in
-    let whole : h ++ encodePieces (e .pieces) ≡ encodeEntry e =
-    ap (λ (x : List ℕ). h ++ x) (sym (after-head e)) ∙ take-append-drop n (encodeEntry e) in
-    e₂ ∙ rw (front, back) (sym (append-assoc h (encodePieces (e .pieces)) (drop (n + m) s)) ∙ ap (λ (x : List ℕ). x ++ drop (n + m) s) whole)
+    let whole : h ++ tail ≡ encodeEntry e = ap (λ (x : List ℕ). h ++ x) (sym (after-head e)) ∙ take-append-drop n (encodeEntry e) in
+    e₂ ∙ rw (front, back) (sym (append-assoc h tail (drop (n + m) s)) ∙ ap (λ (x : List ℕ). x ++ drop (n + m) s) whole)
 
 -- what passes check 31: an entry as the paper says that fits its bytes
 pub entry-fits : (s : List ℕ) → entryBytes s ≡ true → entryFits (decodeEntry s) ≡ true

@@ -1,30 +1,40 @@
--- Lengths by name, and parts of a buffer by their index: document 01, "State record, 32 bytes a position" and so on.
+-- Lengths by name, and parts of a buffer by their index: document 01, "State record" and so on, with the lengths of document 02, 3/14.
 use Prim.Native.Nat.{ℕ, _+_, _*_}
+use mathlib.Core.Bool.{Bool}
 use mathlib.Core.List.{List, _++_}
-use lib.ListN.{length, take, drop, getD}
+use lib.Dec.{eqb}
+use lib.ListN.{length, take, drop, getD, replicate}
+use Rattle.words.specs.Word.{numberAt}
 
--- "State record, 32 bytes a position"
+-- "State record: 40 bytes"
 abbrev pub recordLength : ℕ
-recordLength = 32
+recordLength = 40
 
--- "Frame entry, 56 bytes a position"
+-- "Frame entry: 64 bytes"
 abbrev pub entryLength : ℕ
-entryLength = 56
+entryLength = 64
 
--- "Each block writes only its own twelve bytes of the report"
+-- "Report: 16 bytes"
 abbrev pub reportLength : ℕ
-reportLength = 12
+reportLength = 16
 
--- "Journal event, 8 bytes"
+-- "Event: 12 bytes"
 abbrev pub eventLength : ℕ
-eventLength = 8
+eventLength = 12
 
--- the bytes of a job in each of them
+-- "The port community's appointment number has eight bytes.": a job in each of them
 abbrev pub jobWidth : ℕ
-jobWidth = 4
+jobWidth = 8
 
 abbrev pub byteAt : List ℕ → ℕ → ℕ
 byteAt s i = getD s i 0
+
+-- unnamed bytes, so many, and whether those from place i on are zero: "unnamed bytes are zero"
+abbrev pub zeros : ℕ → List ℕ
+zeros width = replicate width 0
+
+abbrev pub zeroAt : ℕ → List ℕ → ℕ → Bool
+zeroAt width s i = eqb (numberAt width s i) 0
 
 -- part i, from 0, of a buffer whose parts have `size` bytes each
 abbrev pub part : ℕ → ℕ → List ℕ → List ℕ

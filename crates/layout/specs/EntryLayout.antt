@@ -1,4 +1,4 @@
--- Document 01, "Frame entry": an entry as bytes, and back.
+-- Document 01, "Frame entry", with the job as document 02, 3/14 places it: an entry as bytes, and back.
 use Prim.Native.Nat.{ℕ, _+_, _*_}
 use mathlib.Core.Bool.{Bool, _&&_}
 use mathlib.Core.List.{List, [], _∷_, _++_}
@@ -6,7 +6,7 @@ use lib.Dec.{eqb, ltb}
 use Rattle.words.specs.Word.{bytes, numberAt}
 use Rattle.block.specs.Record.{bit}
 use Rattle.block.specs.Entry.{mostPieces, entryFits}
-use Rattle.layout.specs.Buffer.{byteAt, jobWidth}
+use Rattle.layout.specs.Buffer.{byteAt, zeros, zeroAt, jobWidth}
 use Rattle.layout.specs.RecordLayout.{bitOf}
 use Rattle.block.specs.declared.entry.Inputs.{Inputs}
 use Rattle.block.specs.declared.entry.Piece.{Piece}
@@ -46,7 +46,7 @@ inputsByte i = bit (i .start) + 2 * bit (i .abort)
 abbrev pub decodeInputs : ℕ → Inputs
 decodeInputs b = record { start = bitOf b 1; abort = bitOf b 2 }
 
--- where each field begins, and the two unnamed bytes after the abort code
+-- where each field begins, and the unnamed bytes: two after the abort code, and four more
 pub record EntryOffsets : Type 0 where
   pub inputs : ℕ
   pub count : ℕ
@@ -54,16 +54,17 @@ pub record EntryOffsets : Type 0 where
   pub resetReply : ℕ
   pub abortCode : ℕ
   pub unnamedPair : ℕ
-  pub job : ℕ
+  pub unnamedWord : ℕ
   pub limit : ℕ
   pub timeout : ℕ
   pub clock : ℕ
   pub pieces : ℕ
+  pub job : ℕ
 
--- "1 piece count n, 0 to 4; 2 abort reply; 3 reset reply; 4-5 abort error code; 8-11 job ...; 12-15 time limit; 16-19 time-out; 20-23 clock at the call; from 24, four pieces of 8"
+-- "1 piece count n, 0 to 4; 2 abort reply; 3 reset reply; 4-5 abort error code; ... 12-15 time limit; 16-19 time-out; 20-23 clock at the call; from 24, four pieces of 8" "job in 56-63, bytes 8-11 zero"
 abbrev pub entryOffset : EntryOffsets
 entryOffset =
-    record { inputs = 0; count = 1; abortReply = 2; resetReply = 3; abortCode = 4; unnamedPair = 6; job = 8; limit = 12; timeout = 16; clock = 20; pieces = 24 }
+    record { inputs = 0; count = 1; abortReply = 2; resetReply = 3; abortCode = 4; unnamedPair = 6; unnamedWord = 8; limit = 12; timeout = 16; clock = 20; pieces = 24; job = 56 }
 
 -- the bytes before the pieces; piece i, from 0; the end of the four
 abbrev pub headLength : ℕ
@@ -79,12 +80,13 @@ unfoldable pub encodeEntry : Entry → List ℕ
 encodeEntry e =
     (inputsByte (e .inputs) ∷ e .count ∷ e .«abort_reply» ∷ e .«reset_reply» ∷ [])
     ++ (bytes 2 (e .«abort_code»)
-    ++ ((0 ∷ 0 ∷ [])
-    ++ (bytes jobWidth (e .job)
+    ++ (zeros 2
+    ++ (zeros 4
     ++ (bytes 4 (e .limit)
     ++ (bytes 4 (e .timeout)
     ++ (bytes 4 (e .clock)
-    ++ encodePieces (e .pieces)))))))
+    ++ (encodePieces (e .pieces)
+    ++ bytes jobWidth (e .job))))))))
 
 unfoldable pub decodeEntry : List ℕ → Entry
 decodeEntry s =
@@ -104,7 +106,7 @@ decodeEntry s =
 -- "others zero"; the unnamed bytes are zero, before the pieces
 abbrev pub headForm : List ℕ → Bool
 headForm s =
-    ltb (byteAt s (entryOffset .inputs)) 4 && eqb (byteAt s (entryOffset .unnamedPair)) 0 && eqb (byteAt s (entryOffset .unnamedPair + 1)) 0
+    ltb (byteAt s (entryOffset .inputs)) 4 && zeroAt 2 s (entryOffset .unnamedPair) && zeroAt 4 s (entryOffset .unnamedWord)
 
 -- and in each piece
 unfoldable pub entryForm : List ℕ → Bool

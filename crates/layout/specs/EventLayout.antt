@@ -1,4 +1,4 @@
--- Document 01, "Report and journal": journal events as bytes, and back.
+-- Document 01, "Report and journal", with the job as document 02, 3/14 has it: journal events as bytes, and back.
 use Prim.Native.Nat.{ℕ, zero, suc}
 use mathlib.Core.Bool.{cond}
 use mathlib.Core.List.{List, [], _∷_, _++_}
@@ -19,7 +19,7 @@ pub record EventOffsets : Type 0 where
   pub code : ℕ
   pub job : ℕ
 
--- "kind (1 start, 2 done, 3 failed, 4 aborted, 5 withdrawn), position, code (2; 0 unless failed), job (4)"
+-- "kind (1 start, 2 done, 3 failed, 4 aborted, 5 withdrawn), position, code (2; 0 unless failed)" "job in 4-11"
 abbrev pub eventOffset : EventOffsets
 eventOffset = record { kind = 0; position = 1; code = 2; job = 4 }
 

@@ -1,9 +1,9 @@
--- Document 01, "Report and journal": what a call leaves, as its bytes of the report.
+-- Document 01, "Report and journal", with the job as document 02, 3/14 has it: what a call leaves, as its bytes of the report.
 use Prim.Native.Nat.{ℕ}
 use mathlib.Core.List.{List, [], _∷_, _++_}
 use Rattle.words.specs.Word.{bytes}
 use Rattle.block.specs.Call.{Outcome}
-use Rattle.layout.specs.Buffer.{byteAt, jobWidth}
+use Rattle.layout.specs.Buffer.{byteAt, zeros, jobWidth}
 use Rattle.layout.specs.RecordLayout.{flagsByte}
 
 -- where each field begins
@@ -15,14 +15,14 @@ pub record ReportOffsets : Type 0 where
   pub code : ℕ
   pub job : ℕ
 
--- "flags, pieces used, passes, step, code (2), zero (2), job (4), the record's fields as the call leaves them"
+-- "flags, pieces used, passes, step, code (2), zero (2), ... the record's fields as the call leaves them" "job in 8-15"
 abbrev pub reportOffset : ReportOffsets
 reportOffset = record { flags = 0; used = 1; passes = 2; step = 3; code = 4; job = 8 }
 
 unfoldable pub encodeReport : Outcome → List ℕ
 encodeReport o =
     (flagsByte (o .next .flags) ∷ o .used ∷ o .passes ∷ o .next .step ∷ [])
-    ++ (bytes 2 (o .next .code) ++ ((0 ∷ 0 ∷ []) ++ bytes jobWidth (o .next .job)))
+    ++ (bytes 2 (o .next .code) ++ (zeros 2 ++ bytes jobWidth (o .next .job)))
 
 -- the pieces used and the passes, as a report entry states them
 abbrev pub reportedPieces : List ℕ → ℕ

@@ -8,13 +8,14 @@ ghost use mathlib.Core.Bool.{_&&_};
 ghost use mathlib.Core.List.{_++_};
 ghost use Prim.Native.Nat.{_+_, _≤_};
 ghost use lib.ListN.{length, take, drop};
+ghost use Rattle.words.specs.Word.{bytes};
 ghost use Rattle.block.specs.Entry.{pieceForm, pieceFits, headFits};
-ghost use Rattle.layout.specs.Buffer.{entryLength, put};
-ghost use Rattle.layout.specs.EntryLayout.{pieceLength, headLength, piecesEnd, headForm, pieceZero};
+ghost use Rattle.layout.specs.Buffer.{entryLength, jobWidth, put};
+ghost use Rattle.layout.specs.EntryLayout.{entryOffset, pieceLength, headLength, piecesEnd, headForm, pieceZero};
 ghost use Rattle.layout.specs.EntryLayout.{inputsByte, decodeInputs, encodePiece, decodePiece, encodePieces, encodeEntry, decodeEntry, entryBytes};
 
-// Bytes of a frame entry, and of each of its four pieces, which stand after its head.
-pub const ENTRY_BYTES: usize = 56;
+// Bytes of a frame entry, of each of its four pieces, and of what stands before them.
+pub const ENTRY_BYTES: usize = 64;
 
 const PIECE_BYTES: usize = 8;
 
@@ -36,7 +37,7 @@ const ABORT_CODE_OFFSET: usize = 4;
 
 const UNNAMED_PAIR_OFFSET: usize = 6;
 
-const JOB_OFFSET: usize = 8;
+const UNNAMED_WORD_OFFSET: usize = 8;
 
 const LIMIT_OFFSET: usize = 12;
 
@@ -56,6 +57,9 @@ const SECOND_PIECE: usize = FIRST_PIECE + PIECE_BYTES;
 const THIRD_PIECE: usize = SECOND_PIECE + PIECE_BYTES;
 
 const FOURTH_PIECE: usize = THIRD_PIECE + PIECE_BYTES;
+
+// The job is last.
+const JOB_OFFSET: usize = FOURTH_PIECE + PIECE_BYTES;
 
 pub fn decode_inputs(b: u8) -> Inputs
     ensures { λ i. ⌜ i ≡ decodeInputs b ⌝ }
@@ -94,7 +98,7 @@ pub fn decode_entry(s: &[u8]) -> Entry
         abort_reply: s[ABORT_REPLY_OFFSET],
         reset_reply: s[RESET_REPLY_OFFSET],
         abort_code: words::u16_at(s, ABORT_CODE_OFFSET),
-        job: words::u32_at(s, JOB_OFFSET),
+        job: words::u64_at(s, JOB_OFFSET),
         limit: words::u32_at(s, LIMIT_OFFSET),
         timeout: words::u32_at(s, TIME_OUT_OFFSET),
         clock: words::u32_at(s, CLOCK_OFFSET),
@@ -107,7 +111,9 @@ fn head_fits(s: &[u8]) -> bool
     requires { ⌜ entryLength ≤ length (now s) ⌝ }
     ensures { λ r. ⌜ r ≡ headForm (now (s .entry)) && headFits (decodeEntry (now (s .entry))) ⌝ }
 {
-    let form = (s[INPUTS_OFFSET] < 4) & (words::u16_at(s, UNNAMED_PAIR_OFFSET) == 0);
+    let form = (s[INPUTS_OFFSET] < 4)
+        & (words::u16_at(s, UNNAMED_PAIR_OFFSET) == 0)
+        & (words::u32_at(s, UNNAMED_WORD_OFFSET) == 0);
     let replies = (s[COUNT_OFFSET] <= Entry::MOST_PIECES)
         & (s[ABORT_REPLY_OFFSET] <= Entry::ERROR)
         & (s[RESET_REPLY_OFFSET] <= Entry::COMPLETE);
@@ -167,7 +173,6 @@ fn encode_head(e: Entry) -> [u8; HEAD_BYTES]
     ensures { λ b. ⌜ b ≡ take headLength (encodeEntry e) ⌝ }
 {
     let code = words::u16_bytes(e.abort_code);
-    let job = words::u32_bytes(e.job);
     let limit = words::u32_bytes(e.limit);
     let timeout = words::u32_bytes(e.timeout);
     let clock = words::u32_bytes(e.clock);
@@ -180,10 +185,10 @@ fn encode_head(e: Entry) -> [u8; HEAD_BYTES]
         code[1],
         0,
         0,
-        job[0],
-        job[1],
-        job[2],
-        job[3],
+        0,
+        0,
+        0,
+        0,
         limit[0],
         limit[1],
         limit[2],
@@ -235,6 +240,25 @@ fn put_pieces(s: &mut [u8], ps: [Piece; PIECES])
     put_piece(s, FOURTH_PIECE, ps[3]);
 }
 
+// The job is written after the pieces.
+fn put_job(s: &mut [u8], job: u64)
+    requires { ⌜ entryLength ≤ length (now s) ⌝ }
+    ensures { λ _. ⌜ now (s .exit) ≡ put (entryOffset .job) (bytes jobWidth job) (now (s .entry)) ⌝ }
+{
+    let b = words::u64_bytes(job);
+    bytes::copy(&b, &mut s[JOB_OFFSET..]);
+}
+
+// What stands after the head.
+fn put_tail(s: &mut [u8], ps: [Piece; PIECES], job: u64)
+    requires { ⌜ entryLength ≤ length (now s) ⌝ }
+    ensures { λ _. ⌜ now (s .exit)
+        ≡ take headLength (now (s .entry)) ++ (encodePieces ps ++ bytes jobWidth job ++ drop entryLength (now (s .entry))) ⌝ }
+{
+    put_pieces(s, ps);
+    put_job(s, job);
+}
+
 // The first bytes of what is lent become the entry.
 pub fn write_entry(out: &mut [u8], e: Entry)
     requires { ⌜ entryLength ≤ length (now out) ⌝ }
@@ -243,7 +267,7 @@ pub fn write_entry(out: &mut [u8], e: Entry)
     let head = encode_head(e);
     bytes::copy(&head, out);
     let pieces = e.pieces;
-    put_pieces(out, pieces);
+    put_tail(out, pieces, e.job);
 }
 
 // The bytes of an entry.

@@ -7,7 +7,7 @@ ghost use Rattle.layout.specs.Buffer.{eventLength, put};
 ghost use Rattle.layout.specs.EventLayout.{encodeEvent};
 
 // Bytes of a journal event.
-pub const EVENT_BYTES: usize = 8;
+pub const EVENT_BYTES: usize = 12;
 
 // Where its fields begin; the kind is first.
 pub const POSITION_OFFSET: usize = 1;
@@ -19,7 +19,7 @@ pub const JOB_OFFSET: usize = 4;
 pub fn encode_event(position: u8, v: Event) -> [u8; EVENT_BYTES]
     ensures { λ b. ⌜ b ≡ encodeEvent position v ⌝ }
 {
-    let job = words::u32_bytes(v.job);
+    let job = words::u64_bytes(v.job);
     let code = words::u16_bytes(v.code);
     [
         v.kind,
@@ -30,6 +30,10 @@ pub fn encode_event(position: u8, v: Event) -> [u8; EVENT_BYTES]
         job[1],
         job[2],
         job[3],
+        job[4],
+        job[5],
+        job[6],
+        job[7],
     ]
 }
 

@@ -5,15 +5,13 @@ use clock::Timer;
 ghost use mathlib.Core.Path.{_≡_};
 ghost use mathlib.Core.Bool.{_&&_};
 ghost use Prim.Native.Nat.{_+_, _<_, _≤_};
-ghost use lib.Dec.{eqb};
 ghost use lib.ListN.{length};
-ghost use Rattle.words.specs.Word.{numberAt};
 ghost use Rattle.block.specs.Record.{bit};
-ghost use Rattle.layout.specs.Buffer.{recordLength, put};
+ghost use Rattle.layout.specs.Buffer.{recordLength, zeroAt, put};
 ghost use Rattle.layout.specs.RecordLayout.{flagsByte, decodeFlags, encodeRecord, decodeRecord, recordForm, soundBytes};
 
 // Bytes of a state record, and where its fields begin.
-pub const RECORD_BYTES: usize = 32;
+pub const RECORD_BYTES: usize = 40;
 
 pub const STEP_OFFSET: usize = 0;
 
@@ -21,11 +19,11 @@ pub const FLAGS_OFFSET: usize = 1;
 
 const REQUEST_OFFSET: usize = 2;
 
-const JOB_OFFSET: usize = 4;
+// Four unnamed bytes, and two; one more stands after the request.
+const UNNAMED_WORD_OFFSET: usize = 4;
 
 const CODE_OFFSET: usize = 8;
 
-// Two unnamed bytes; one more stands after the request.
 const UNNAMED_PAIR_OFFSET: usize = 10;
 
 const LIMIT_OFFSET: usize = 12;
@@ -35,6 +33,8 @@ const TIME_OUT_OFFSET: usize = 16;
 const LAST_OFFSET: usize = 20;
 
 const ELAPSED_OFFSET: usize = 24;
+
+const JOB_OFFSET: usize = 32;
 
 pub fn bit(b: bool) -> u8
     ensures { λ r. ⌜ r ≡ bit b ⌝ }
@@ -69,7 +69,7 @@ pub fn decode_record(s: &[u8]) -> Record
         step: s[STEP_OFFSET],
         flags: decode_flags(s[FLAGS_OFFSET]),
         request: s[REQUEST_OFFSET] == 1,
-        job: words::u32_at(s, JOB_OFFSET),
+        job: words::u64_at(s, JOB_OFFSET),
         code: words::u16_at(s, CODE_OFFSET),
         limit: words::u32_at(s, LIMIT_OFFSET),
         timeout: words::u32_at(s, TIME_OUT_OFFSET),
@@ -84,21 +84,21 @@ pub fn decode_record(s: &[u8]) -> Record
 pub fn encode_record(r: Record) -> [u8; RECORD_BYTES]
     ensures { λ b. ⌜ b ≡ encodeRecord r ⌝ }
 {
-    let job = words::u32_bytes(r.job);
     let code = words::u16_bytes(r.code);
     let limit = words::u32_bytes(r.limit);
     let timeout = words::u32_bytes(r.timeout);
     let last = words::u32_bytes(r.timer.last);
     let elapsed = words::u64_bytes(r.timer.elapsed);
+    let job = words::u64_bytes(r.job);
     [
         r.step,
         flags_byte(r.flags),
         bit(r.request),
         0,
-        job[0],
-        job[1],
-        job[2],
-        job[3],
+        0,
+        0,
+        0,
+        0,
         code[0],
         code[1],
         0,
@@ -123,6 +123,14 @@ pub fn encode_record(r: Record) -> [u8; RECORD_BYTES]
         elapsed[5],
         elapsed[6],
         elapsed[7],
+        job[0],
+        job[1],
+        job[2],
+        job[3],
+        job[4],
+        job[5],
+        job[6],
+        job[7],
     ]
 }
 
@@ -142,18 +150,20 @@ fn record_form(s: &[u8]) -> bool
 {
     (s[FLAGS_OFFSET] < 16)
         & (words::u16_at(s, REQUEST_OFFSET) <= 1)
+        & (words::u32_at(s, UNNAMED_WORD_OFFSET) == 0)
         & (words::u16_at(s, UNNAMED_PAIR_OFFSET) == 0)
 }
 
-// All the bytes are zero, read eight at a time.
+// All the bytes are zero, read eight at a time: a field begins at each eighth byte.
 fn record_zero(s: &[u8]) -> bool
     requires { ⌜ recordLength ≤ length (now s) ⌝ }
-    ensures { λ r. ⌜ r ≡ eqb (numberAt recordLength (now (s .entry)) 0) 0 ⌝ }
+    ensures { λ r. ⌜ r ≡ zeroAt recordLength (now (s .entry)) 0 ⌝ }
 {
-    (words::u64_at(s, 0) == 0)
-        & (words::u64_at(s, 8) == 0)
-        & (words::u64_at(s, 16) == 0)
-        & (words::u64_at(s, 24) == 0)
+    (words::u64_at(s, STEP_OFFSET) == 0)
+        & (words::u64_at(s, CODE_OFFSET) == 0)
+        & (words::u64_at(s, TIME_OUT_OFFSET) == 0)
+        & (words::u64_at(s, ELAPSED_OFFSET) == 0)
+        & (words::u64_at(s, JOB_OFFSET) == 0)
 }
 
 // Check 21 of one record: Dormant is all zero; else the form, then the fields.

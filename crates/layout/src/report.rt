@@ -9,7 +9,7 @@ ghost use Rattle.layout.specs.Buffer.{reportLength};
 ghost use Rattle.layout.specs.ReportLayout.{encodeReport};
 
 // Bytes of a report entry.
-pub const REPORT_BYTES: usize = 12;
+pub const REPORT_BYTES: usize = 16;
 
 // Where its fields begin; the flags are first.
 pub const USED_OFFSET: usize = 1;
@@ -26,7 +26,7 @@ pub fn encode_report(a: CallResult) -> [u8; REPORT_BYTES]
     ensures { λ b. ⌜ b ≡ encodeReport (outcomeOf a) ⌝ }
 {
     let r = a.next;
-    let job = words::u32_bytes(r.job);
+    let job = words::u64_bytes(r.job);
     let code = words::u16_bytes(r.code);
     [
         crate::record::flags_byte(r.flags),
@@ -41,6 +41,10 @@ pub fn encode_report(a: CallResult) -> [u8; REPORT_BYTES]
         job[1],
         job[2],
         job[3],
+        job[4],
+        job[5],
+        job[6],
+        job[7],
     ]
 }
 

@@ -15,6 +15,10 @@ uint64_t baseline_scan(const uint8_t *image, size_t image_len, uint8_t *state, s
 enum { BUSY = 1, DONE = 2, ERROR = 4, ABORTED = 8 };
 enum { S_DORMANT, S_EXECUTING, S_DONE, S_ERROR, S_ABORTING, S_ABORTED, S_RESETTING };
 
+/* Bytes of a state record, a frame entry, a report entry and an event, and where the job is in each. */
+enum { RECORD = 40, ENTRY = 64, REPORT = 16, EVENT = 12 };
+enum { RECORD_JOB = 32, ENTRY_JOB = 56, REPORT_JOB = 8, EVENT_JOB = 4 };
+
 #define HELD 4294967296u
 #define OUT_OF_STEP 2147483648u
 
@@ -28,8 +32,8 @@ struct table {
 struct record {
     uint8_t step, flags, request;
     uint16_t code;
-    uint32_t job, limit, time_out, last;
-    uint64_t elapsed;
+    uint32_t limit, time_out, last;
+    uint64_t elapsed, job;
 };
 
 static int edge(unsigned kind) { return kind <= 8; }
@@ -168,7 +172,7 @@ uint64_t baseline_fresh(const uint8_t *image, size_t image_len, uint8_t *state, 
     uint64_t refused = read_table(&t, image, image_len);
     if (refused)
         return refused;
-    if (state_len != 32 * (size_t)t.count)
+    if (state_len != RECORD * (size_t)t.count)
         return refuse(20, 0);
     if (state_len != 0)
         memset(state, 0, state_len);
@@ -180,7 +184,7 @@ static void load(struct record *r, const uint8_t *p)
     r->step = p[0];
     r->flags = p[1];
     r->request = p[2];
-    r->job = get32(p + 4);
+    r->job = get64(p + RECORD_JOB);
     r->code = get16(p + 8);
     r->limit = get32(p + 12);
     r->time_out = get32(p + 16);
@@ -190,11 +194,11 @@ static void load(struct record *r, const uint8_t *p)
 
 static void store(const struct record *r, uint8_t *p)
 {
-    memset(p, 0, 32);
+    memset(p, 0, RECORD);
     p[0] = r->step;
     p[1] = r->flags;
     p[2] = r->request;
-    put32(p + 4, r->job);
+    put64(p + RECORD_JOB, r->job);
     put16(p + 8, r->code);
     put32(p + 12, r->limit);
     put32(p + 16, r->time_out);
@@ -204,12 +208,12 @@ static void store(const struct record *r, uint8_t *p)
 
 static int is_sound(const uint8_t *p, unsigned kind)
 {
-    static const uint8_t zeros[32];
+    static const uint8_t zeros[RECORD];
     struct record r;
     load(&r, p);
     if (r.step == S_DORMANT)
-        return memcmp(p, zeros, 32) == 0;
-    if (p[3] != 0 || p[10] != 0 || p[11] != 0 || r.request > 1 || r.elapsed > HELD)
+        return memcmp(p, zeros, RECORD) == 0;
+    if (p[3] != 0 || get32(p + 4) != 0 || p[10] != 0 || p[11] != 0 || r.request > 1 || r.elapsed > HELD)
         return 0;
     switch (r.step) {
     case S_EXECUTING:
@@ -256,7 +260,8 @@ static int is_entry(const uint8_t *e)
 {
     static const uint8_t zeros[32];
     unsigned n = e[1];
-    if (e[0] > 3 || n > 4 || !is_reply(e[2], get16(e + 4)) || e[3] > 1 || e[6] != 0 || e[7] != 0)
+    if (e[0] > 3 || n > 4 || !is_reply(e[2], get16(e + 4)) || e[3] > 1 || e[6] != 0 || e[7] != 0 ||
+        get32(e + 8) != 0)
         return 0;
     for (unsigned i = 0; i < n; i++) {
         const uint8_t *piece = e + 24 + 8 * i;
@@ -270,19 +275,19 @@ static uint64_t check_buffers(const struct table *t, const uint8_t *state, size_
                               const uint8_t *frame, size_t frame_len, size_t report_len,
                               size_t journal_len)
 {
-    if (state_len != 32 * (size_t)t->count)
+    if (state_len != RECORD * (size_t)t->count)
         return refuse(20, 0);
     for (unsigned i = 0; i < t->count; i++)
-        if (!is_sound(state + 32 * i, slot_at(t, t->order[i])[0]))
+        if (!is_sound(state + RECORD * i, slot_at(t, t->order[i])[0]))
             return refuse(21, i + 1);
-    if (frame_len != 56 * (size_t)t->count)
+    if (frame_len != ENTRY * (size_t)t->count)
         return refuse(30, 0);
     for (unsigned i = 0; i < t->count; i++)
-        if (!is_entry(frame + 56 * i))
+        if (!is_entry(frame + ENTRY * i))
             return refuse(31, i + 1);
-    if (report_len != 12 * (size_t)t->count)
+    if (report_len != REPORT * (size_t)t->count)
         return refuse(40, 0);
-    if (journal_len < 16 * (size_t)t->count)
+    if (journal_len < 2 * EVENT * (size_t)t->count)
         return refuse(41, 0);
     return 0;
 }
@@ -300,11 +305,11 @@ struct call {
 
 static void event(struct call *c, uint8_t kind, uint16_t code)
 {
-    uint8_t *p = c->events + 8 * c->count++;
+    uint8_t *p = c->events + EVENT * c->count++;
     p[0] = kind;
     p[1] = (uint8_t)c->position;
     put16(p + 2, code);
-    put32(p + 4, c->r->job);
+    put64(p + EVENT_JOB, c->r->job);
 }
 
 /* The time counted from one reading to another: none to one out of step. */
@@ -390,7 +395,7 @@ static int pass(struct call *c)
     case S_DORMANT:
         if (!c->start)
             return 0;
-        r->job = get32(c->entry + 8);
+        r->job = get64(c->entry + ENTRY_JOB);
         if (edge(c->kind) && has_limit(c->kind))
             r->limit = get32(c->entry + 12);
         if (edge(c->kind) && has_time_out(c->kind))
@@ -437,7 +442,7 @@ static int input(const struct table *t, const uint8_t *wire, const uint8_t *stat
 {
     if (wire[0] == 0)
         return bit;
-    uint8_t flags = state[32 * (t->position[wire[0]] - 1) + 1];
+    uint8_t flags = state[RECORD * (t->position[wire[0]] - 1) + 1];
     return (flags >> (wire[1] & 3) & 1) != wire[1] >> 7;
 }
 
@@ -453,24 +458,24 @@ uint64_t baseline_scan(const uint8_t *image, size_t image_len, uint8_t *state, s
         return refused;
     unsigned events = 0;
     for (unsigned i = 0; i < t.count; i++) {
-        const uint8_t *slot = slot_at(&t, t.order[i]), *entry = frame + 56 * i;
+        const uint8_t *slot = slot_at(&t, t.order[i]), *entry = frame + ENTRY * i;
         struct record r;
-        struct call c = {slot[0], i + 1, 0, 0, entry, &r, 0, journal + 8 * events, 0};
+        struct call c = {slot[0], i + 1, 0, 0, entry, &r, 0, journal + EVENT * events, 0};
         c.start = input(&t, slot + 2, state, entry[0] & 1);
         c.abort = input(&t, slot + 4, state, entry[0] >> 1 & 1);
-        load(&r, state + 32 * i);
+        load(&r, state + RECORD * i);
         uint8_t passes = 1;
         while (pass(&c))
             passes++;
-        store(&r, state + 32 * i);
-        uint8_t *out = report + 12 * i;
+        store(&r, state + RECORD * i);
+        uint8_t *out = report + REPORT * i;
         out[0] = r.flags;
         out[1] = c.used;
         out[2] = passes;
         out[3] = r.step;
         put16(out + 4, r.code);
         put16(out + 6, 0);
-        put32(out + 8, r.job);
+        put64(out + REPORT_JOB, r.job);
         events += c.count;
     }
     return events;

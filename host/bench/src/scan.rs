@@ -63,7 +63,7 @@ fn loads(blocks: usize) -> [Load; 3] {
     };
     let start = |reply| Entry {
         start: true,
-        job: 7,
+        job: (1 << 40) + 7,
         time_limit: 50,
         time_out: 1_000,
         clock: 100,

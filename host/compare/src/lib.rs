@@ -9,12 +9,18 @@
 //! - [`scan_check`]: one fresh state or scan by each implementation, compared.
 //! - [`readings`]: the readings of calls, those out of step counted.
 //! - [`seen`]: what the accepted scans did.
+//! - [`jobs`]: the jobs of their events, counted by their form.
+//! - [`layouts`]: refusals by the length of a buffer or by one unnamed byte, counted.
 //! - [`tally`]: counts of what was seen.
+//! - [`forms`]: counts of what was met, by its form.
 //! - [`underscores`]: tags with underscores, and bytes that are no tag because of one, counted by their form.
 
 #![forbid(unsafe_code)]
 
 pub mod check;
+pub mod forms;
+pub mod jobs;
+pub mod layouts;
 pub mod readings;
 pub mod records;
 pub mod rng;

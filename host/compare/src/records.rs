@@ -1,42 +1,8 @@
 //! State records, sound and unsound, and frame entries, formed and not, for each kind.
 
 use crate::rng::Rng;
-use lane::{Record, Step, ENTRY_BYTES, MAX_PIECES, PIECE_BYTES, RECORD_BYTES};
-
-/// Where a record's fields begin, and its unnamed bytes.
-const STEP: usize = 0;
-const FLAGS: usize = 1;
-const REQUEST: usize = 2;
-const JOB: usize = 4;
-const CODE: usize = 8;
-const LIMIT: usize = 12;
-const TIME_OUT: usize = 16;
-const READING: usize = 20;
-const ELAPSED: usize = 24;
-const UNNAMED: [usize; 3] = [3, 10, 11];
-
-/// Where an entry's fields begin, and its unnamed bytes.
-mod at_entry {
-    pub const INPUTS: usize = 0;
-    pub const COUNT: usize = 1;
-    pub const ABORT_REPLY: usize = 2;
-    pub const RESET_REPLY: usize = 3;
-    pub const ABORT_CODE: usize = 4;
-    pub const UNNAMED: [usize; 2] = [6, 7];
-    pub const JOB: usize = 8;
-    pub const LIMIT: usize = 12;
-    pub const TIME_OUT: usize = 16;
-    pub const CLOCK: usize = 20;
-    pub const PIECES: usize = 24;
-}
-
-/// Where a piece's fields begin, and its unnamed byte.
-mod at_piece {
-    pub const REPLY: usize = 0;
-    pub const UNNAMED: usize = 1;
-    pub const CODE: usize = 2;
-    pub const CLOCK: usize = 4;
-}
+use lane::{Record, Step, ENTRY_BYTES, MAX_PIECES, RECORD_BYTES};
+use reference::layout::{entry as at_entry, piece as at_piece, record as at};
 
 const BUSY: u8 = 1;
 const DONE: u8 = 2;
@@ -88,6 +54,30 @@ pub fn word(rng: &mut Rng) -> u32 {
         5 => (rng.below(200) as u32).wrapping_neg(),
         6 => HALF + rng.below(200) as u32 - 100,
         _ => rng.next() as u32,
+    }
+}
+
+/// A job that does not fit in four bytes.
+pub const LONG: u64 = (1 << 40) + 7;
+
+/// The low four bytes of a job.
+pub const LOW: u64 = u32::MAX as u64;
+
+/// A job: none of its bytes set, all, the low four or the high four alone, or any; often another one, or like that in
+/// the low or in the high four bytes, or in all bits but one.
+pub fn job(rng: &mut Rng, like: u64) -> u64 {
+    let high = u64::from(word(rng)) << u32::BITS;
+    match rng.below(16) {
+        0 => 0,
+        1 => u64::MAX,
+        2 => LONG,
+        3 => u64::from(word(rng)),
+        4 => high,
+        5..=7 => like & LOW | high,
+        8 => like & !LOW | u64::from(word(rng)),
+        9 | 10 => like,
+        11..=13 => like ^ 1 << rng.below(64),
+        _ => rng.next(),
     }
 }
 
@@ -149,23 +139,24 @@ fn sound_open(rng: &mut Rng, kind: u8) -> [u8; RECORD_BYTES] {
     let has = Has::of(kind);
     let (step, flag) = rng.pick(&shapes(has));
     let mut record = [0; RECORD_BYTES];
-    record[STEP] = step;
-    record[FLAGS] = flag;
-    record[REQUEST] = u8::from(may_request(has, flag) && rng.one_in(2));
-    put(&mut record, JOB, &word(rng).to_le_bytes());
+    record[at::STEP] = step;
+    record[at::FLAGS] = flag;
+    record[at::RESET_REQUEST] = u8::from(may_request(has, flag) && rng.one_in(2));
+    let like = rng.next();
+    put(&mut record, at::JOB, &job(rng, like).to_le_bytes());
     if flag == ERROR {
         let time_out = has.time_out && rng.one_in(2);
         let code = if time_out { 1 } else { code(rng) };
-        put(&mut record, CODE, &code.to_le_bytes());
+        put(&mut record, at::CODE, &code.to_le_bytes());
     }
     if !has.level && has.limit {
-        put(&mut record, LIMIT, &bound(rng).to_le_bytes());
+        put(&mut record, at::TIME_LIMIT, &bound(rng).to_le_bytes());
     }
     if !has.level && has.time_out {
-        put(&mut record, TIME_OUT, &bound(rng).to_le_bytes());
+        put(&mut record, at::TIME_OUT, &bound(rng).to_le_bytes());
     }
-    put(&mut record, READING, &word(rng).to_le_bytes());
-    put(&mut record, ELAPSED, &elapsed(rng).to_le_bytes());
+    put(&mut record, at::LAST_READING, &word(rng).to_le_bytes());
+    put(&mut record, at::ELAPSED, &elapsed(rng).to_le_bytes());
     record
 }
 
@@ -186,10 +177,10 @@ fn spoil_shape(rng: &mut Rng, has: Has, record: &mut [u8; RECORD_BYTES]) {
         }
     };
     let code = if flag == ERROR { code(rng) } else { 0 };
-    record[STEP] = step;
-    record[FLAGS] = flag;
-    record[REQUEST] = 0;
-    put(record, CODE, &code.to_le_bytes());
+    record[at::STEP] = step;
+    record[at::FLAGS] = flag;
+    record[at::RESET_REQUEST] = 0;
+    put(record, at::CODE, &code.to_le_bytes());
 }
 
 /// An elapsed time above the greatest.
@@ -205,38 +196,38 @@ fn past_held(rng: &mut Rng) -> u64 {
 pub fn unsound(rng: &mut Rng, kind: u8) -> [u8; RECORD_BYTES] {
     let has = Has::of(kind);
     let mut record = sound_open(rng, kind);
-    let flag = record[FLAGS];
-    match rng.below(14) {
+    let flag = record[at::FLAGS];
+    match rng.below(16) {
         // A Dormant record that is not all zero.
         0 => {
             record = [0; RECORD_BYTES];
             record[rng.range(1, RECORD_BYTES - 1)] = rng.byte(1, 255);
         }
-        1 => record[STEP] = 0,
-        2 => record[STEP] = rng.byte(7, 255),
-        3 => record[FLAGS] = 0,
-        4 => record[FLAGS] |= 1 << rng.byte(4, 7),
+        1 => record[at::STEP] = 0,
+        2 => record[at::STEP] = rng.byte(7, 255),
+        3 => record[at::FLAGS] = 0,
+        4 => record[at::FLAGS] |= 1 << rng.byte(4, 7),
         // Another flag beside the one it has.
         5 => {
             let mut flags = vec![BUSY, DONE, ERROR, ABORTED];
             flags.retain(|&other| other != flag);
-            record[FLAGS] |= rng.pick(&flags);
+            record[at::FLAGS] |= rng.pick(&flags);
         }
         6 => spoil_shape(rng, has, &mut record),
-        7 => record[REQUEST] = rng.byte(2, 255),
-        8 if !may_request(has, flag) => record[REQUEST] = 1,
-        9 if flag == ERROR => put(&mut record, CODE, &[0, 0]),
-        9 => put(&mut record, CODE, &code(rng).to_le_bytes()),
-        10 if flag == ERROR && !has.time_out => put(&mut record, CODE, &[1, 0]),
+        7 => record[at::RESET_REQUEST] = rng.byte(2, 255),
+        8 if !may_request(has, flag) => record[at::RESET_REQUEST] = 1,
+        9 if flag == ERROR => put(&mut record, at::CODE, &[0, 0]),
+        9 => put(&mut record, at::CODE, &code(rng).to_le_bytes()),
+        10 if flag == ERROR && !has.time_out => put(&mut record, at::CODE, &[1, 0]),
         11 if has.level || !has.limit => {
-            put(&mut record, LIMIT, &word(rng).max(1).to_le_bytes());
+            put(&mut record, at::TIME_LIMIT, &word(rng).max(1).to_le_bytes());
         }
         12 if has.level || !has.time_out => {
-            put(&mut record, TIME_OUT, &word(rng).max(1).to_le_bytes());
+            put(&mut record, at::TIME_OUT, &word(rng).max(1).to_le_bytes());
         }
-        13 => put(&mut record, ELAPSED, &past_held(rng).to_le_bytes()),
+        13 => put(&mut record, at::ELAPSED, &past_held(rng).to_le_bytes()),
         // An unnamed byte.
-        _ => record[rng.pick(&UNNAMED)] = rng.byte(1, 255),
+        _ => record[rng.pick(&at::UNNAMED)] = rng.byte(1, 255),
     }
     record
 }
@@ -326,7 +317,7 @@ fn reply(rng: &mut Rng, working: usize, complete: usize, error: usize) -> (u8, u
     }
 }
 
-/// How a list of scans drives its blocks: how often start holds, and how often abort comes.
+/// How a list of scans drives its blocks: how often start holds, how often abort comes, and which jobs they are given.
 #[derive(Clone, Copy, Debug)]
 pub struct Drive {
     /// Of eight entries, so many start.
@@ -335,6 +326,8 @@ pub struct Drive {
     pub abort: usize,
     /// Of eight pieces, so many are working.
     pub working: usize,
+    /// Jobs are often like this one.
+    pub job: u64,
 }
 
 impl Drive {
@@ -343,13 +336,9 @@ impl Drive {
             start: rng.pick(&[3, 5, 6, 7]),
             abort: rng.pick(&[0, 1, 3]),
             working: rng.pick(&[2, 4, 6]),
+            job: rng.next(),
         }
     }
-}
-
-/// Where piece i of an entry, from 0, begins.
-fn piece_at(i: usize) -> usize {
-    at_entry::PIECES + PIECE_BYTES * i
 }
 
 /// A formed entry.
@@ -362,15 +351,19 @@ pub fn entry(rng: &mut Rng, drive: Drive, clock: &mut Clock) -> [u8; ENTRY_BYTES
     entry[at_entry::ABORT_REPLY] = abort_reply;
     put(&mut entry, at_entry::ABORT_CODE, &abort_code.to_le_bytes());
     entry[at_entry::RESET_REPLY] = u8::from(rng.below(4) > 0);
-    put(&mut entry, at_entry::JOB, &word(rng).to_le_bytes());
-    put(&mut entry, at_entry::LIMIT, &bound(rng).to_le_bytes());
+    put(
+        &mut entry,
+        at_entry::JOB,
+        &job(rng, drive.job).to_le_bytes(),
+    );
+    put(&mut entry, at_entry::TIME_LIMIT, &bound(rng).to_le_bytes());
     put(&mut entry, at_entry::TIME_OUT, &bound(rng).to_le_bytes());
     put(&mut entry, at_entry::CLOCK, &clock.read(rng).to_le_bytes());
     let pieces = rng.pick(&[0, 1, 1, 1, 2, 2, 3, MAX_PIECES]);
-    entry[at_entry::COUNT] = pieces as u8;
+    entry[at_entry::PIECE_COUNT] = pieces as u8;
     for i in 0..pieces {
         let (reply, code) = reply(rng, drive.working, 7 - drive.working, 1);
-        let piece = piece_at(i);
+        let piece = at_entry::piece(i);
         entry[piece + at_piece::REPLY] = reply;
         put(&mut entry, piece + at_piece::CODE, &code.to_le_bytes());
         put(
@@ -393,19 +386,20 @@ fn spoil_code(rng: &mut Rng, entry: &mut [u8], reply: usize, at: usize) {
 
 /// Spoils one field of a formed entry.
 pub fn spoil_entry(rng: &mut Rng, entry: &mut [u8]) {
-    let pieces = usize::from(entry[at_entry::COUNT]);
+    let pieces = usize::from(entry[at_entry::PIECE_COUNT]);
     // A piece that the entry has, or the first.
-    let piece = piece_at(rng.below(pieces.max(1)));
+    let piece = at_entry::piece(rng.below(pieces.max(1)));
     match rng.below(10) {
         0 => entry[at_entry::INPUTS] |= 1 << rng.byte(2, 7),
-        1 => entry[at_entry::COUNT] = rng.byte(5, 255),
+        1 => entry[at_entry::PIECE_COUNT] = rng.byte(5, 255),
         2 => entry[at_entry::ABORT_REPLY] = rng.byte(3, 255),
         3 => entry[at_entry::RESET_REPLY] = rng.byte(2, 255),
         4 => spoil_code(rng, entry, at_entry::ABORT_REPLY, at_entry::ABORT_CODE),
         5 => entry[rng.pick(&at_entry::UNNAMED)] = rng.byte(1, 255),
         // A piece past the last.
         6 if pieces < MAX_PIECES => {
-            entry[rng.range(piece_at(pieces), piece_at(MAX_PIECES) - 1)] = rng.byte(1, 255);
+            entry[rng.range(at_entry::piece(pieces), at_entry::piece(MAX_PIECES) - 1)] =
+                rng.byte(1, 255);
         }
         _ if pieces == 0 => entry[at_entry::INPUTS] = rng.byte(4, 255),
         7 => entry[piece + at_piece::REPLY] = rng.byte(3, 255),

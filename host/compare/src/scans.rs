@@ -26,14 +26,26 @@ fn noise(rng: &mut Rng, count: usize) -> Vec<u8> {
     (0..count).map(|_| next()).collect()
 }
 
-/// Another length than this, near it or far.
-fn other_length(rng: &mut Rng, length: usize) -> usize {
+/// Bytes a block before request 3/14.
+pub mod before {
+    pub const RECORD: usize = 32;
+    pub const ENTRY: usize = 56;
+    pub const REPORT: usize = 12;
+    pub const EVENTS: usize = 16;
+}
+
+/// The least bytes of a journal, a block.
+pub const EVENTS_BYTES: usize = 2 * EVENT_BYTES;
+
+/// Another length than this: near it or far, or the one before request 3/14.
+fn other_length(rng: &mut Rng, length: usize, before: usize) -> usize {
     loop {
-        let other = match rng.below(5) {
+        let other = match rng.below(7) {
             0 => 0,
             1 => length + 1,
             2 => length.saturating_sub(1),
-            3 => length + rng.range(1, 64),
+            3 => before,
+            4 => length + rng.range(1, 64),
             _ => length.saturating_sub(rng.range(1, 64)),
         };
         if other != length {
@@ -85,13 +97,13 @@ impl List {
             clock.follow(rng, record);
             frame.extend_from_slice(&entry(rng, self.drive, clock));
         }
-        let spare = rng.pick(&[0, 0, 0, 1, EVENT_BYTES, 100]);
+        let spare = rng.pick(&[0, 0, 0, 1, EVENT_BYTES, EVENTS_BYTES, 100]);
         Buffers {
             image: self.table.image.clone(),
             state: state.to_vec(),
             frame,
             report: noise(rng, REPORT_BYTES * blocks),
-            journal: noise(rng, 2 * EVENT_BYTES * blocks + spare),
+            journal: noise(rng, EVENTS_BYTES * blocks + spare),
         }
     }
 
@@ -102,13 +114,13 @@ impl List {
         match wrong {
             Wrong::Table => self.damage_table(rng, scan),
             Wrong::StateLength => {
-                let length = other_length(rng, RECORD_BYTES * blocks);
+                let length = other_length(rng, RECORD_BYTES * blocks, before::RECORD * blocks);
                 scan.state.resize(length, 0);
                 Some(Refusal::new(20, 0))
             }
             Wrong::State => self.damage_record(rng, scan),
             Wrong::FrameLength => {
-                let length = other_length(rng, ENTRY_BYTES * blocks);
+                let length = other_length(rng, ENTRY_BYTES * blocks, before::ENTRY * blocks);
                 scan.frame.resize(length, 0);
                 Some(Refusal::new(30, 0))
             }
@@ -118,14 +130,15 @@ impl List {
                 Some(Refusal::new(31, index as u32 + 1))
             }
             Wrong::ReportLength => {
-                let length = other_length(rng, REPORT_BYTES * blocks);
+                let length = other_length(rng, REPORT_BYTES * blocks, before::REPORT * blocks);
                 scan.report.resize(length, 0xee);
                 Some(Refusal::new(40, 0))
             }
             Wrong::JournalLength => {
-                let least = 2 * EVENT_BYTES * blocks;
+                let least = EVENTS_BYTES * blocks;
                 let any = rng.below(least.max(1));
-                let length = rng.pick(&[0, least.saturating_sub(1), any]);
+                let short = least.saturating_sub(1);
+                let length = rng.pick(&[0, short, before::EVENTS * blocks, any]);
                 scan.journal.truncate(length);
                 (blocks > 0).then_some(Refusal::new(41, 0))
             }

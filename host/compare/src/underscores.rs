@@ -1,67 +1,11 @@
 //! Underscores in tags: the tables that have them, pairs of tags that one of them tells apart, and bytes that are no tag
 //! because of one alone. Each form is counted.
 
+use crate::forms::Forms;
 use reference::table::is_tag;
-use std::fmt;
 
 /// The bytes of a tag, or of what is none.
 pub type Bytes = [u8; 8];
-
-/// A form, and how often it was met.
-struct Form<T> {
-    name: String,
-    has: Box<dyn Fn(&T) -> bool>,
-    count: u64,
-}
-
-/// Counts of several forms.
-pub struct Forms<T> {
-    all: u64,
-    forms: Vec<Form<T>>,
-}
-
-impl<T> Forms<T> {
-    fn new() -> Forms<T> {
-        Forms {
-            all: 0,
-            forms: Vec::new(),
-        }
-    }
-
-    /// Counts one form more.
-    fn with(mut self, name: impl Into<String>, has: impl Fn(&T) -> bool + 'static) -> Forms<T> {
-        self.forms.push(Form {
-            name: name.into(),
-            has: Box::new(has),
-            count: 0,
-        });
-        self
-    }
-
-    /// Counts the forms that any of these has, each once.
-    pub fn add(&mut self, items: impl Iterator<Item = T> + Clone) {
-        self.all += 1;
-        for form in &mut self.forms {
-            form.count += u64::from(items.clone().any(|item| (form.has)(&item)));
-        }
-    }
-
-    /// Fails unless each form was met more than once in so many times.
-    pub fn expect(&self, times: u64) {
-        for Form { name, count, .. } in &self.forms {
-            assert!(times * count > self.all, "too few {name}\n{self}");
-        }
-    }
-}
-
-impl<T> fmt::Display for Forms<T> {
-    fn fmt(&self, f: &mut fmt::Formatter<'_>) -> fmt::Result {
-        for Form { name, count, .. } in &self.forms {
-            writeln!(f, "{count:>10} of {} {name}", self.all)?;
-        }
-        Ok(())
-    }
-}
 
 /// The bytes with another one at an index.
 fn with(bytes: &Bytes, at: usize, byte: u8) -> Bytes {
@@ -109,12 +53,6 @@ fn difference([one, other]: &[Bytes; 2]) -> Option<(u8, u8)> {
     let mut places = one.iter().zip(other).filter(|(one, other)| one != other);
     let (&one, &other) = places.next()?;
     places.next().is_none().then_some((one, other))
-}
-
-/// The pairs of these tags: each with those before it.
-pub fn pairs(tags: &[Bytes]) -> impl Iterator<Item = [Bytes; 2]> + Clone + '_ {
-    let places = tags.iter().enumerate();
-    places.flat_map(|(at, &tag)| tags[..at].iter().map(move |&other| [tag, other]))
 }
 
 impl Forms<Bytes> {

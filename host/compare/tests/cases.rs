@@ -54,7 +54,7 @@ fn scans() {
     }
     println!("{cases} cases");
     print!("{tally}");
-    assert_eq!((cases, tally.accepted()), (70, 134));
+    assert_eq!((cases, tally.accepted()), (87, 182));
 }
 
 #[test]

@@ -3,15 +3,22 @@
 //! `LANE_SEED` sets the seed, `LANE_ROUNDS` multiplies the number of lists. A failing scan is printed as
 //! a command that runs it again.
 
+use compare::forms::Forms;
+use compare::jobs::Jobs;
+use compare::layouts::Layouts;
+use compare::records::{entry, sound, Clock, Drive};
 use compare::rng::{settings, Rng};
 use compare::scan_check::{fresh, line, scan};
-use compare::scans::{sound_state, Buffers, List, Wrong};
+use compare::scans::{before, sound_state, Buffers, List, Wrong, EVENTS_BYTES};
 use compare::seen::{events_of, Seen};
 use compare::tables::{Fault, Size, Table};
 use compare::tally::Tally;
 use compare::text::{answer, Answer};
 use lane::{Engine, Entry, EventKind, Frame, Record, Refusal, ReportEntry, State};
-use lane::{ENTRY_BYTES, RECORD_BYTES};
+use lane::{ENTRY_BYTES, EVENT_BYTES, RECORD_BYTES, REPORT_BYTES};
+use reference::layout;
+use reference::layout::{entry as at_entry, record as at};
+use std::iter;
 
 /// The numbers that a scan of an accepted table gives.
 const SCAN: [u32; 6] = [20, 21, 30, 31, 40, 41];
@@ -45,7 +52,7 @@ fn expect(case: u64, given: &Buffers, expected: Answer, found: Answer) {
 }
 
 /// The turns of each block's events: the job that is open, if any.
-struct Turns(Vec<Option<u32>>);
+struct Turns(Vec<Option<u64>>);
 
 impl Turns {
     /// Follows an accepted scan: starts and finishes take turns, with the job of the frame entry at the
@@ -53,7 +60,7 @@ impl Turns {
     fn follow(&mut self, given: &Buffers, after: &Buffers, events: u32) {
         for event in events_of(after, events) {
             let index = event.position.index();
-            let job = &given.frame[ENTRY_BYTES * index + 8..][..4];
+            let job = &given.frame[ENTRY_BYTES * index + at_entry::JOB..][..size_of::<u64>()];
             let open = &mut self.0[index];
             match event.kind {
                 EventKind::Start => {
@@ -67,7 +74,8 @@ impl Turns {
             }
         }
         for (record, open) in after.state.chunks_exact(RECORD_BYTES).zip(&self.0) {
-            assert_eq!(matches!(record[0], 1 | 4), open.is_some(), "{record:?}");
+            let step = record[at::STEP];
+            assert_eq!(matches!(step, 1 | 4), open.is_some(), "{record:?}");
         }
     }
 }
@@ -108,13 +116,46 @@ fn expect_first(case: u64, given: &Buffers, refusals: &[Refusal], found: Answer)
     }
 }
 
+/// What the scans of a test met.
+#[derive(Default)]
+struct Met {
+    tally: Tally,
+    layouts: Layouts,
+    seen: Seen,
+    jobs: Jobs,
+}
+
+impl Met {
+    /// Counts what a scan was given and answered.
+    fn add(&mut self, table: &Table, given: &Buffers, found: Answer) {
+        self.tally.add(found);
+        self.layouts.add(table, given, found);
+    }
+
+    /// Fails unless each refusal was met.
+    fn expect_refusals(&self) {
+        print!("{}{}", self.tally, self.layouts);
+        self.tally.expect(SCAN);
+        self.tally.expect(1..=11);
+        self.tally.expect_places([21, 31]);
+        self.layouts.expect_often();
+    }
+
+    /// Fails unless all was met that accepted scans can do.
+    fn expect_work(&self) {
+        print!("{}{}", self.seen, self.jobs);
+        self.seen.expect_all();
+        self.jobs.expect_often();
+    }
+}
+
 /// One scan of a list, at times with something wrong: what it was given, what it left, its answer.
 fn step(
     case: u64,
     rng: &mut Rng,
     list: &mut List,
     state: &[u8],
-    tally: &mut Tally,
+    met: &mut Met,
 ) -> (Buffers, Buffers, Answer) {
     let mut given = list.scan(rng, state);
     let refusals = spoil(rng, list, &mut given);
@@ -122,46 +163,51 @@ fn step(
     if let Some(refusals) = refusals {
         expect_first(case, &given, &refusals, found);
     }
-    tally.add(found);
+    met.add(&list.table, &given, found);
     (given, after, found)
+}
+
+/// The state that a list begins with: a fresh one, or any sound one.
+fn first_state(case: u64, rng: &mut Rng, table: &Table, from_fresh: bool) -> Vec<u8> {
+    if !from_fresh {
+        return sound_state(rng, table);
+    }
+    let blocks = table.chain.len();
+    let state = vec![rng.byte(0, 255); RECORD_BYTES * blocks];
+    let (found, zeros) = agreed(case, fresh(&table.image, &state));
+    assert_eq!(found, Ok(blocks as u32));
+    zeros
 }
 
 /// Runs lists of scans, each from a fresh state or from any sound one.
 fn run(name: &str, seed: u64, lists: u64, from_fresh: bool) {
     let (seed, lists) = settings(name, seed, lists);
-    let (mut tally, mut seen) = (Tally::default(), Seen::default());
+    let mut met = Met::default();
     for case in 0..lists {
         let mut rng = Rng::for_case(seed, case);
         let table = table(&mut rng);
         let mut list = List::new(&mut rng, table);
+        let mut state = first_state(case, &mut rng, &list.table, from_fresh);
         let blocks = list.table.chain.len();
-        let mut state = vec![rng.byte(0, 255); RECORD_BYTES * blocks];
-        if from_fresh {
-            let (found, zeros) = agreed(case, fresh(&list.table.image, &state));
-            assert_eq!(found, Ok(blocks as u32));
-            state = zeros;
-        } else {
-            state = sound_state(&mut rng, &list.table);
-        }
         let mut turns = Turns(vec![None; blocks]);
+        let mut last = vec![None; blocks];
         for _ in 0..rng.range(1, 16) {
-            let (given, after, found) = step(case, &mut rng, &mut list, &state, &mut tally);
+            let (given, after, found) = step(case, &mut rng, &mut list, &state, &mut met);
             let Ok(events) = found else { continue };
-            seen.add(&list.table, &given, &after, events);
+            met.seen.add(&list.table, &given, &after, events);
             // A scan of a changed state is no part of the list.
             if given.state == state {
                 if from_fresh {
                     turns.follow(&given, &after, events);
                 }
+                let events: Vec<_> = events_of(&after, events).collect();
+                met.jobs.add(&mut last, &events);
                 state = after.state;
             }
         }
     }
-    print!("{tally}{seen}");
-    tally.expect(SCAN);
-    tally.expect(1..=11);
-    tally.expect_places([21, 31]);
-    seen.expect_all();
+    met.expect_refusals();
+    met.expect_work();
 }
 
 #[test]
@@ -178,7 +224,7 @@ fn lists_from_any_sound_state() {
 #[test]
 fn damaged_scans() {
     let (seed, cases) = settings("scans with something wrong", 203, 120_000);
-    let mut tally = Tally::default();
+    let mut met = Met::default();
     for case in 0..cases {
         let mut rng = Rng::for_case(seed, case);
         let table = table(&mut rng);
@@ -189,38 +235,122 @@ fn damaged_scans() {
         let refusal = list.damage(&mut rng, &mut given, kind);
         let (found, _) = agreed(case, scan(&given));
         expect_first(case, &given, refusal.as_slice(), found);
-        tally.add(found);
+        met.add(&list.table, &given, found);
     }
-    print!("{tally}");
-    tally.expect(1..=11);
-    tally.expect(SCAN);
-    tally.expect_places([21, 31]);
+    met.expect_refusals();
+}
+
+/// The binding and the reference give the same bytes a block.
+#[test]
+fn bytes_a_block() {
+    let binding = [RECORD_BYTES, ENTRY_BYTES, REPORT_BYTES, EVENT_BYTES];
+    let record = layout::record::SIZE;
+    let report = layout::report::SIZE;
+    let reference = [record, layout::entry::SIZE, report, layout::event::SIZE];
+    assert_eq!(binding, reference);
+}
+
+/// A table of so many blocks and a scan of it that is accepted.
+fn accepted(rng: &mut Rng, blocks: usize) -> (Table, Buffers) {
+    let slots = blocks;
+    let table = Table::new(rng, Size { slots, blocks });
+    let state = sound_state(rng, &table);
+    let given = List::new(rng, table.clone()).scan(rng, &state);
+    (table, given)
+}
+
+/// A buffer of a scan, the bytes a block of it, and the number that a wrong length gives.
+type Buffer = (fn(&mut Buffers) -> &mut Vec<u8>, usize, u32);
+
+/// Every length of each buffer up to twice the right one.
+#[test]
+fn every_length() {
+    let buffers: [Buffer; 4] = [
+        (|scan| &mut scan.state, RECORD_BYTES, 20),
+        (|scan| &mut scan.frame, ENTRY_BYTES, 30),
+        (|scan| &mut scan.report, REPORT_BYTES, 40),
+        (|scan| &mut scan.journal, EVENTS_BYTES, 41),
+    ];
+    for blocks in [1, 2, 3, 5, 8, 64] {
+        let (table, given) = accepted(&mut Rng::new(206), blocks);
+        for (buffer, bytes, number) in buffers {
+            let right = bytes * blocks;
+            for length in 0..=2 * right {
+                let mut given = given.clone();
+                buffer(&mut given).resize(length, 0);
+                let (found, _) = agreed(length as u64, scan(&given));
+                let good = length == right || (number == 41 && length > right);
+                let refusal = (!good).then_some(Refusal::new(number, 0));
+                expect_first(length as u64, &given, refusal.as_slice(), found);
+                if number == 20 {
+                    let (found, _) = agreed(length as u64, fresh(&table.image, &given.state));
+                    assert_eq!(found, refusal.map_or(Ok(blocks as u32), Err));
+                }
+            }
+        }
+    }
+}
+
+/// Every value in every unnamed byte of a record and of an entry that is good but for it, on every kind.
+#[test]
+fn every_unnamed_byte() {
+    let mut rng = Rng::new(207);
+    for kind in 1..=14 {
+        let (mut table, mut given) = accepted(&mut rng, 1);
+        while table.kind(1) != kind {
+            (table, given) = accepted(&mut rng, 1);
+        }
+        for value in 1..=255 {
+            for place in at::UNNAMED {
+                let mut given = given.clone();
+                given.state = sound(&mut rng, kind).to_vec();
+                given.state[place] = value;
+                let (found, _) = agreed(u64::from(value), scan(&given));
+                expect(place as u64, &given, Err(Refusal::new(21, 1)), found);
+            }
+            for place in at_entry::UNNAMED {
+                let mut given = given.clone();
+                let (drive, mut clock) = (Drive::any(&mut rng), Clock::new(&mut rng));
+                given.frame = entry(&mut rng, drive, &mut clock).to_vec();
+                given.frame[place] = value;
+                let (found, _) = agreed(u64::from(value), scan(&given));
+                expect(place as u64, &given, Err(Refusal::new(31, 1)), found);
+            }
+        }
+    }
+}
+
+/// The length of a state of so many blocks, at times a wrong one.
+fn state_length(rng: &mut Rng, blocks: usize) -> usize {
+    let right = RECORD_BYTES * blocks;
+    if !rng.one_in(3) {
+        return right;
+    }
+    rng.pick(&[
+        0,
+        RECORD_BYTES - 1,
+        RECORD_BYTES,
+        RECORD_BYTES + 1,
+        right + 1,
+        right.saturating_sub(1),
+        right + RECORD_BYTES,
+        before::RECORD * blocks,
+    ])
 }
 
 /// Fresh states: any bytes before, wrong lengths, wrong tables.
 #[test]
 fn fresh_states() {
     let (seed, cases) = settings("fresh states", 204, 40_000);
-    let mut tally = Tally::default();
+    let (mut tally, mut lengths) = (Tally::default(), Forms::states());
     for case in 0..cases {
         let mut rng = Rng::for_case(seed, case);
         let mut table = table(&mut rng);
         let blocks = table.chain.len();
         let mut expected = Ok(blocks as u32);
-        let mut length = RECORD_BYTES * blocks;
-        if rng.one_in(3) {
-            length = rng.pick(&[
-                0,
-                RECORD_BYTES - 1,
-                RECORD_BYTES,
-                RECORD_BYTES + 1,
-                length + 1,
-                length.saturating_sub(1),
-                length + RECORD_BYTES,
-            ]);
-            if length != RECORD_BYTES * blocks {
-                expected = Err(Refusal::new(20, 0));
-            }
+        let length = state_length(&mut rng, blocks);
+        if length != RECORD_BYTES * blocks {
+            expected = Err(Refusal::new(20, 0));
         }
         if rng.one_in(4) {
             let fault = rng.pick(&Fault::ALL);
@@ -231,10 +361,14 @@ fn fresh_states() {
         assert_eq!(answer(found), answer(expected), "case {case}");
         assert!(found.is_err() || after.iter().all(|&byte| byte == 0));
         tally.add(found);
+        if found == Err(Refusal::new(20, 0)) {
+            lengths.add(iter::once((blocks, length)));
+        }
     }
-    print!("{tally}");
+    print!("{tally}refused 20\n{lengths}");
     tally.expect(1..=11);
     tally.expect([20]);
+    lengths.expect(20);
 }
 
 /// The binding's typed buffers give the same bytes, and every value in them goes to bytes and back.

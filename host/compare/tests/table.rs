@@ -4,12 +4,14 @@
 //! printed as a command that runs it again.
 
 use compare::check::{check, find};
+use compare::forms::{pairs, Forms};
 use compare::rng::{settings, Rng};
 use compare::tables::{alike, no_tag, tag, Fault, Size, Table};
 use compare::tally::Tally;
 use compare::text::{answer, Answer};
-use compare::underscores::{pairs, Bytes, Forms};
+use compare::underscores::Bytes;
 use lane::{Block, Engine, Kind, Position, Refusal, Tag};
+use lane::{HEADER_BYTES, SLOT_BYTES, TAG_BYTES};
 use std::{array, iter};
 
 /// The numbers of the table checks, and of those that name a slot.
@@ -302,7 +304,7 @@ fn tag_forms() {
             false => (Err(Refusal::new(50, 0)), Err(Refusal::new(8, 1))),
         };
         let mut image = table.clone();
-        image[12..20].copy_from_slice(&bytes);
+        image[HEADER_BYTES + SLOT_BYTES - TAG_BYTES..].copy_from_slice(&bytes);
         assert_eq!(agreed(case, find(&table, &bytes)), found, "{bytes:?}");
         assert_eq!(agreed(case, check(&image)), checked, "{bytes:?}");
         tags += u32::from(is_tag);

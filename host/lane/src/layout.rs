@@ -4,16 +4,16 @@ use crate::offset::{entry, event, piece, record, report};
 use crate::Position;
 
 /// Bytes of a state record, one a block.
-pub const RECORD_BYTES: usize = 32;
+pub const RECORD_BYTES: usize = 40;
 
 /// Bytes of a frame entry, one a block.
-pub const ENTRY_BYTES: usize = 56;
+pub const ENTRY_BYTES: usize = 64;
 
 /// Bytes of a report entry, one a block.
-pub const REPORT_BYTES: usize = 12;
+pub const REPORT_BYTES: usize = 16;
 
 /// Bytes of a journal event, at most two a block.
-pub const EVENT_BYTES: usize = 8;
+pub const EVENT_BYTES: usize = 12;
 
 /// The greatest number of pieces of an entry.
 pub const MAX_PIECES: usize = 4;
@@ -35,6 +35,10 @@ fn u16_at(from: &[u8], at: usize) -> u16 {
 
 fn u32_at(from: &[u8], at: usize) -> u32 {
     u32::from_le_bytes(bytes(from, at))
+}
+
+fn u64_at(from: &[u8], at: usize) -> u64 {
+    u64::from_le_bytes(bytes(from, at))
 }
 
 /// Writes bytes at a place.
@@ -134,7 +138,7 @@ pub struct Record {
     /// Whether the start input was false when the finish was shown.
     pub reset_request: bool,
     /// The job taken at the start.
-    pub job: u32,
+    pub job: u64,
     /// The error code, nonzero with the error flag.
     pub code: u16,
     /// The time limit taken at the start, in microseconds; 0 is none.
@@ -157,12 +161,12 @@ impl Record {
             step: *Step::ALL.get(usize::from(from[record::STEP]))?,
             flags: Flags::decode(from[record::FLAGS])?,
             reset_request: from[record::RESET_REQUEST] == 1,
-            job: u32_at(from, record::JOB),
+            job: u64_at(from, record::JOB),
             code: u16_at(from, record::CODE),
             time_limit: u32_at(from, record::TIME_LIMIT),
             time_out: u32_at(from, record::TIME_OUT),
             last_reading: u32_at(from, record::LAST_READING),
-            elapsed: u64::from_le_bytes(bytes(from, record::ELAPSED)),
+            elapsed: u64_at(from, record::ELAPSED),
         };
         (record.encode() == *from).then_some(record)
     }
@@ -294,12 +298,13 @@ impl<const N: usize> From<[Piece; N]> for Pieces {
 ///
 /// let entry = Entry {
 ///     start: true,
-///     job: 7,
+///     job: (1 << 40) + 7,
 ///     pieces: [Piece::new(Reply::Complete, 20)].into(),
 ///     ..Entry::default()
 /// };
 /// let bytes = entry.encode();
-/// assert_eq!(bytes[..12], [1, 1, 0, 0, 0, 0, 0, 0, 7, 0, 0, 0]);
+/// assert_eq!(bytes[..8], [1, 1, 0, 0, 0, 0, 0, 0]);
+/// assert_eq!(*bytes.last_chunk().unwrap(), [7, 0, 0, 0, 0, 1, 0, 0]);
 /// assert_eq!(Entry::decode(&bytes), Some(entry));
 /// ```
 #[derive(Clone, Copy, Debug, Default, PartialEq, Eq, Hash)]
@@ -313,7 +318,7 @@ pub struct Entry {
     /// Whether the reset is complete; the block stays in Resetting until it is.
     pub reset_complete: bool,
     /// The job, any number.
-    pub job: u32,
+    pub job: u64,
     /// The time limit of a call, in microseconds; 0 is none.
     pub time_limit: u32,
     /// The time-out of a job, in microseconds; 0 is none.
@@ -341,7 +346,7 @@ impl Entry {
             abort: from[entry::INPUTS] & 2 != 0,
             abort_reply: Reply::decode(from[entry::ABORT_REPLY], u16_at(from, entry::ABORT_CODE))?,
             reset_complete: from[entry::RESET_REPLY] == 1,
-            job: u32_at(from, entry::JOB),
+            job: u64_at(from, entry::JOB),
             time_limit: u32_at(from, entry::TIME_LIMIT),
             time_out: u32_at(from, entry::TIME_OUT),
             clock: u32_at(from, entry::CLOCK),
@@ -391,7 +396,7 @@ pub struct ReportEntry {
     /// The error code after the call.
     pub code: u16,
     /// The job after the call.
-    pub job: u32,
+    pub job: u64,
 }
 
 impl ReportEntry {
@@ -403,7 +408,7 @@ impl ReportEntry {
             passes: from[report::PASSES],
             step: *Step::ALL.get(usize::from(from[report::STEP]))?,
             code: u16_at(from, report::CODE),
-            job: u32_at(from, report::JOB),
+            job: u64_at(from, report::JOB),
         };
         (entry.encode() == *from).then_some(entry)
     }
@@ -463,7 +468,7 @@ pub struct Event {
     /// The error code of a failed job, else 0; 1 is its time-out.
     pub code: u16,
     /// The job.
-    pub job: u32,
+    pub job: u64,
 }
 
 impl Event {
@@ -474,7 +479,7 @@ impl Event {
             kind: *EventKind::ALL.get(kind)?,
             position: Position::new(usize::from(from[event::POSITION]))?,
             code: u16_at(from, event::CODE),
-            job: u32_at(from, event::JOB),
+            job: u64_at(from, event::JOB),
         })
     }
 

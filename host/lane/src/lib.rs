@@ -58,7 +58,7 @@ pub use table::{HEADER_BYTES, MAX_BLOCKS, SLOT_BYTES, TAG_BYTES};
 
 /// The ABI of the archive that this binding is for, as `LANE_ABI` of the C header counts it: a change of a
 /// layout, of a function's arguments or of what a number means raises it.
-pub const ABI: u32 = 1;
+pub const ABI: u32 = 2;
 
 /// The most stack that a call takes, rounded up, in bytes, as the C header says.
 pub const STACK_BYTES: u64 = 1024;

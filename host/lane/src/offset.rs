@@ -19,12 +19,12 @@ pub mod record {
     pub const STEP: usize = 0;
     pub const FLAGS: usize = 1;
     pub const RESET_REQUEST: usize = 2;
-    pub const JOB: usize = 4;
     pub const CODE: usize = 8;
     pub const TIME_LIMIT: usize = 12;
     pub const TIME_OUT: usize = 16;
     pub const LAST_READING: usize = 20;
     pub const ELAPSED: usize = 24;
+    pub const JOB: usize = 32;
 }
 
 /// In a frame entry.
@@ -34,11 +34,11 @@ pub mod entry {
     pub const ABORT_REPLY: usize = 2;
     pub const RESET_REPLY: usize = 3;
     pub const ABORT_CODE: usize = 4;
-    pub const JOB: usize = 8;
     pub const TIME_LIMIT: usize = 12;
     pub const TIME_OUT: usize = 16;
     pub const CLOCK: usize = 20;
     pub const PIECES: usize = 24;
+    pub const JOB: usize = 56;
 }
 
 /// In a piece of a frame entry.

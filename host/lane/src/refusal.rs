@@ -82,12 +82,12 @@ impl Refusal {
                  or is an abort wire on a kind without one"
             }
             (11, _) => "it is off the chain and not all zero",
-            (20, _) => "the state's length is not 32 bytes a block",
+            (20, _) => "the state's length is not 40 bytes a block",
             (21, _) => "its state record is unsound",
-            (30, _) => "the frame's length is not 56 bytes a block",
+            (30, _) => "the frame's length is not 64 bytes a block",
             (31, _) => "its frame entry is out of form",
-            (40, _) => "the report's length is not 12 bytes a block",
-            (41, _) => "the journal is shorter than 16 bytes a block",
+            (40, _) => "the report's length is not 16 bytes a block",
+            (41, _) => "the journal is shorter than 24 bytes a block",
             (50, _) => {
                 "the tag to find is not one or more of A-Z, 0-9 and, except first, underscore, \
                  then spaces to eight bytes"

@@ -40,7 +40,7 @@ impl Engine {
     /// let mut frame = engine.frame();
     /// let mut entry = Entry {
     ///     start: true,
-    ///     job: 7,
+    ///     job: (1 << 40) + 7,
     ///     time_out: 100,
     ///     clock: 4_294_967_290,
     ///     pieces: [Piece::new(Reply::Working, 4)].into(),
@@ -57,7 +57,7 @@ impl Engine {
     /// frame.set(lane0, &entry);
     /// let outcome = engine.scan(&mut state, &frame)?;
     /// let event = outcome.journal.events().next().unwrap();
-    /// assert_eq!((event.kind, event.code, event.job), (EventKind::Failed, 1, 7));
+    /// assert_eq!((event.kind, event.code, event.job), (EventKind::Failed, 1, (1 << 40) + 7));
     ///
     /// // A frame out of form is turned back, and the state stays.
     /// entry.abort_reply = Reply::Error(1);

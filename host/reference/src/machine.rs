@@ -3,6 +3,7 @@
 //!
 //! "A call repeats passes until one stops."
 
+use crate::layout::{entry, event, piece, put, record, report, u16_at, u32_at, u64_at};
 use crate::table::{has_abort, has_time_limit, has_time_out, is_continuous, is_edge, is_level};
 
 /// "flags (bits 0-3 busy, done, error, aborted)"
@@ -22,7 +23,7 @@ pub const TIME_OUT_CODE: u16 = 1;
 /// "Elapsed adds these and is held at 4,294,967,296"
 pub const MAX_ELAPSED: u64 = 4_294_967_296;
 
-/// "Frame entry, 56 bytes a position ... from 24, four pieces of 8"
+/// "from 24, four pieces of 8"
 pub const MAX_PIECES: usize = 4;
 
 /// Document 02, 1/14: "A difference of 2,147,483,648 or more shall count as 0,
@@ -38,18 +39,17 @@ pub fn time_between(earlier: u32, later: u32) -> Option<u32> {
     (difference < OUT_OF_STEP).then_some(difference)
 }
 
-/// "State record, 32 bytes a position"
-///
-/// "0 step (0 Dormant, 1 Executing, 2 Done, 3 Error, 4 Aborting, 5 Aborted, 6
-/// Resetting); 1 flags (bits 0-3 busy, done, error, aborted); 2 reset request,
-/// 0 or 1; 4-7 job; 8-9 error code; 12-15 time limit and 16-19 time-out taken
-/// at the start; 20-23 last clock reading; 24-31 elapsed."
+/// The state record: "0 step (0 Dormant, 1 Executing, 2 Done, 3 Error, 4
+/// Aborting, 5 Aborted, 6 Resetting); 1 flags (bits 0-3 busy, done, error,
+/// aborted); 2 reset request, 0 or 1"; job; error code; "time limit and ...
+/// time-out taken at the start"; "last clock reading"; elapsed. Document 02,
+/// 3/14: "The port community's appointment number has eight bytes."
 #[derive(Debug, Clone, Copy, PartialEq, Eq)]
 pub struct Record {
     pub step: u8,
     pub flags: u8,
     pub reset_request: u8,
-    pub job: u32,
+    pub job: u64,
     pub code: u16,
     pub time_limit: u32,
     pub time_out: u32,
@@ -58,7 +58,7 @@ pub struct Record {
 }
 
 impl Record {
-    pub const SIZE: usize = 32;
+    pub const SIZE: usize = record::SIZE;
 
     pub const DORMANT: u8 = 0;
     pub const EXECUTING: u8 = 1;
@@ -83,33 +83,41 @@ impl Record {
         }
     }
 
-    /// The named fields of the 32 bytes.
-    pub fn decode(b: &[u8; Record::SIZE]) -> Record {
+    /// The named fields of the bytes.
+    pub fn decode(bytes: &[u8; Record::SIZE]) -> Record {
         Record {
-            step: b[0],
-            flags: b[1],
-            reset_request: b[2],
-            job: u32::from_le_bytes([b[4], b[5], b[6], b[7]]),
-            code: u16::from_le_bytes([b[8], b[9]]),
-            time_limit: u32::from_le_bytes([b[12], b[13], b[14], b[15]]),
-            time_out: u32::from_le_bytes([b[16], b[17], b[18], b[19]]),
-            last_reading: u32::from_le_bytes([b[20], b[21], b[22], b[23]]),
-            elapsed: u64::from_le_bytes([b[24], b[25], b[26], b[27], b[28], b[29], b[30], b[31]]),
+            step: bytes[record::STEP],
+            flags: bytes[record::FLAGS],
+            reset_request: bytes[record::RESET_REQUEST],
+            job: u64_at(bytes, record::JOB),
+            code: u16_at(bytes, record::CODE),
+            time_limit: u32_at(bytes, record::TIME_LIMIT),
+            time_out: u32_at(bytes, record::TIME_OUT),
+            last_reading: u32_at(bytes, record::LAST_READING),
+            elapsed: u64_at(bytes, record::ELAPSED),
         }
     }
 
-    /// The 32 bytes; "unnamed bytes are zero."
+    /// The bytes; "unnamed bytes are zero."
     pub fn encode(&self) -> [u8; Record::SIZE] {
         let mut bytes = [0; Record::SIZE];
-        bytes[0] = self.step;
-        bytes[1] = self.flags;
-        bytes[2] = self.reset_request;
-        bytes[4..8].copy_from_slice(&self.job.to_le_bytes());
-        bytes[8..10].copy_from_slice(&self.code.to_le_bytes());
-        bytes[12..16].copy_from_slice(&self.time_limit.to_le_bytes());
-        bytes[16..20].copy_from_slice(&self.time_out.to_le_bytes());
-        bytes[20..24].copy_from_slice(&self.last_reading.to_le_bytes());
-        bytes[24..32].copy_from_slice(&self.elapsed.to_le_bytes());
+        bytes[record::STEP] = self.step;
+        bytes[record::FLAGS] = self.flags;
+        bytes[record::RESET_REQUEST] = self.reset_request;
+        put(&mut bytes, record::CODE, &self.code.to_le_bytes());
+        put(
+            &mut bytes,
+            record::TIME_LIMIT,
+            &self.time_limit.to_le_bytes(),
+        );
+        put(&mut bytes, record::TIME_OUT, &self.time_out.to_le_bytes());
+        put(
+            &mut bytes,
+            record::LAST_READING,
+            &self.last_reading.to_le_bytes(),
+        );
+        put(&mut bytes, record::ELAPSED, &self.elapsed.to_le_bytes());
+        put(&mut bytes, record::JOB, &self.job.to_le_bytes());
         bytes
     }
 
@@ -183,9 +191,7 @@ impl Record {
     /// kind. "unnamed bytes and bits zero. Job and reading are free."
     pub fn is_sound(bytes: &[u8; Record::SIZE], kind: u8) -> bool {
         let record = Record::decode(bytes);
-        bytes[3] == 0
-            && bytes[10] == 0
-            && bytes[11] == 0
+        record::UNNAMED.iter().all(|&at| bytes[at] == 0)
             && record.step_is_sound(kind)
             && record.flags_are_sound(kind)
             && record.code_is_sound(kind)
@@ -214,36 +220,37 @@ pub struct Piece {
 }
 
 impl Piece {
-    pub const SIZE: usize = 8;
+    pub const SIZE: usize = piece::SIZE;
 
-    /// A piece of eight zeros.
+    /// A piece of zeros.
     pub const ZERO: Piece = Piece {
         reply: REPLY_WORKING,
         code: 0,
         clock: 0,
     };
 
-    /// The named fields of the eight bytes.
+    /// The named fields of the bytes.
     pub fn decode(bytes: &[u8; Piece::SIZE]) -> Piece {
-        let [reply, _, code0, code1, clock0, clock1, clock2, clock3] = *bytes;
         Piece {
-            reply,
-            code: u16::from_le_bytes([code0, code1]),
-            clock: u32::from_le_bytes([clock0, clock1, clock2, clock3]),
+            reply: bytes[piece::REPLY],
+            code: u16_at(bytes, piece::CODE),
+            clock: u32_at(bytes, piece::CLOCK),
         }
     }
 
-    /// The eight bytes.
+    /// The bytes.
     pub fn encode(&self) -> [u8; Piece::SIZE] {
-        let [code0, code1] = self.code.to_le_bytes();
-        let [clock0, clock1, clock2, clock3] = self.clock.to_le_bytes();
-        [self.reply, 0, code0, code1, clock0, clock1, clock2, clock3]
+        let mut bytes = [0; Piece::SIZE];
+        bytes[piece::REPLY] = self.reply;
+        put(&mut bytes, piece::CODE, &self.code.to_le_bytes());
+        put(&mut bytes, piece::CLOCK, &self.clock.to_le_bytes());
+        bytes
     }
 
     /// Whether these bytes are a piece: its zero byte, its reply and its code.
     fn is_formed(bytes: &[u8; Piece::SIZE]) -> bool {
         let piece = Piece::decode(bytes);
-        bytes[1] == 0 && is_reply(piece.reply, piece.code)
+        bytes[piece::UNNAMED] == 0 && is_reply(piece.reply, piece.code)
     }
 }
 
@@ -256,12 +263,10 @@ pub struct Inputs {
     pub abort: bool,
 }
 
-/// "Frame entry, 56 bytes a position"
-///
-/// "0 inputs (bit 0 start, that is Execute or Enable; bit 1 abort; others
-/// zero); 1 piece count n, 0 to 4; 2 abort reply; 3 reset reply; 4-5 abort
-/// error code; 8-11 job (any value, 0 included); 12-15 time limit; 16-19
-/// time-out; 20-23 clock at the call; from 24, four pieces of 8."
+/// The frame entry: "inputs (bit 0 start, that is Execute or Enable; bit 1
+/// abort; others zero)"; "piece count n, 0 to 4"; abort reply; reset reply;
+/// abort error code; "job (any value, 0 included)"; time limit; time-out;
+/// "clock at the call"; "four pieces".
 #[derive(Debug, Clone, Copy, PartialEq, Eq)]
 pub struct Entry {
     pub inputs: Inputs,
@@ -269,7 +274,7 @@ pub struct Entry {
     pub abort_reply: u8,
     pub reset_reply: u8,
     pub abort_code: u16,
-    pub job: u32,
+    pub job: u64,
     pub time_limit: u32,
     pub time_out: u32,
     pub clock: u32,
@@ -277,59 +282,60 @@ pub struct Entry {
 }
 
 impl Entry {
-    pub const SIZE: usize = 56;
+    pub const SIZE: usize = entry::SIZE;
 
     /// The bytes of the four pieces.
-    fn piece_bytes(b: &[u8; Entry::SIZE]) -> [[u8; Piece::SIZE]; MAX_PIECES] {
-        [
-            [b[24], b[25], b[26], b[27], b[28], b[29], b[30], b[31]],
-            [b[32], b[33], b[34], b[35], b[36], b[37], b[38], b[39]],
-            [b[40], b[41], b[42], b[43], b[44], b[45], b[46], b[47]],
-            [b[48], b[49], b[50], b[51], b[52], b[53], b[54], b[55]],
-        ]
+    fn piece_bytes(bytes: &[u8; Entry::SIZE]) -> [[u8; Piece::SIZE]; MAX_PIECES] {
+        let mut pieces = [[0; Piece::SIZE]; MAX_PIECES];
+        for (index, piece) in pieces.iter_mut().enumerate() {
+            let at = entry::piece(index);
+            piece.copy_from_slice(&bytes[at..at + Piece::SIZE]);
+        }
+        pieces
     }
 
-    /// The named fields of the 56 bytes.
-    pub fn decode(b: &[u8; Entry::SIZE]) -> Entry {
-        let [first, second, third, fourth] = Entry::piece_bytes(b);
+    /// The named fields of the bytes.
+    pub fn decode(bytes: &[u8; Entry::SIZE]) -> Entry {
         Entry {
             inputs: Inputs {
-                start: b[0] & 0x01 != 0,
-                abort: b[0] & 0x02 != 0,
+                start: bytes[entry::INPUTS] & 0x01 != 0,
+                abort: bytes[entry::INPUTS] & 0x02 != 0,
             },
-            piece_count: b[1],
-            abort_reply: b[2],
-            reset_reply: b[3],
-            abort_code: u16::from_le_bytes([b[4], b[5]]),
-            job: u32::from_le_bytes([b[8], b[9], b[10], b[11]]),
-            time_limit: u32::from_le_bytes([b[12], b[13], b[14], b[15]]),
-            time_out: u32::from_le_bytes([b[16], b[17], b[18], b[19]]),
-            clock: u32::from_le_bytes([b[20], b[21], b[22], b[23]]),
-            pieces: [
-                Piece::decode(&first),
-                Piece::decode(&second),
-                Piece::decode(&third),
-                Piece::decode(&fourth),
-            ],
+            piece_count: bytes[entry::PIECE_COUNT],
+            abort_reply: bytes[entry::ABORT_REPLY],
+            reset_reply: bytes[entry::RESET_REPLY],
+            abort_code: u16_at(bytes, entry::ABORT_CODE),
+            job: u64_at(bytes, entry::JOB),
+            time_limit: u32_at(bytes, entry::TIME_LIMIT),
+            time_out: u32_at(bytes, entry::TIME_OUT),
+            clock: u32_at(bytes, entry::CLOCK),
+            pieces: Entry::piece_bytes(bytes).map(|piece| Piece::decode(&piece)),
         }
     }
 
-    /// The 56 bytes; "unnamed bytes are zero."
+    /// The bytes; "unnamed bytes are zero."
     pub fn encode(&self) -> [u8; Entry::SIZE] {
         let mut bytes = [0; Entry::SIZE];
-        bytes[0] = u8::from(self.inputs.start) | (u8::from(self.inputs.abort) << 1);
-        bytes[1] = self.piece_count;
-        bytes[2] = self.abort_reply;
-        bytes[3] = self.reset_reply;
-        bytes[4..6].copy_from_slice(&self.abort_code.to_le_bytes());
-        bytes[8..12].copy_from_slice(&self.job.to_le_bytes());
-        bytes[12..16].copy_from_slice(&self.time_limit.to_le_bytes());
-        bytes[16..20].copy_from_slice(&self.time_out.to_le_bytes());
-        bytes[20..24].copy_from_slice(&self.clock.to_le_bytes());
-        bytes[24..32].copy_from_slice(&self.pieces[0].encode());
-        bytes[32..40].copy_from_slice(&self.pieces[1].encode());
-        bytes[40..48].copy_from_slice(&self.pieces[2].encode());
-        bytes[48..56].copy_from_slice(&self.pieces[3].encode());
+        bytes[entry::INPUTS] = u8::from(self.inputs.start) | (u8::from(self.inputs.abort) << 1);
+        bytes[entry::PIECE_COUNT] = self.piece_count;
+        bytes[entry::ABORT_REPLY] = self.abort_reply;
+        bytes[entry::RESET_REPLY] = self.reset_reply;
+        put(
+            &mut bytes,
+            entry::ABORT_CODE,
+            &self.abort_code.to_le_bytes(),
+        );
+        put(
+            &mut bytes,
+            entry::TIME_LIMIT,
+            &self.time_limit.to_le_bytes(),
+        );
+        put(&mut bytes, entry::TIME_OUT, &self.time_out.to_le_bytes());
+        put(&mut bytes, entry::CLOCK, &self.clock.to_le_bytes());
+        for (index, piece) in self.pieces.iter().enumerate() {
+            put(&mut bytes, entry::piece(index), &piece.encode());
+        }
+        put(&mut bytes, entry::JOB, &self.job.to_le_bytes());
         bytes
     }
 
@@ -337,39 +343,41 @@ impl Entry {
     fn pieces_are_formed(bytes: &[u8; Entry::SIZE], count: usize) -> bool {
         let pieces = Entry::piece_bytes(bytes);
         let used = pieces.iter().take(count).all(Piece::is_formed);
-        let past = pieces.iter().skip(count).all(|piece| *piece == [0; 8]);
+        let past = pieces
+            .iter()
+            .skip(count)
+            .all(|piece| *piece == [0; Piece::SIZE]);
         used && past
     }
 
     /// Whether these bytes are a frame entry: "inputs (bit 0 start ...; bit 1
     /// abort; others zero)", "piece count n, 0 to 4", "Replies: 0 working, 1
     /// complete, 2 error; reset never 2. A code is 2 to 65,535 with reply 2,
-    /// else 0."
+    /// else 0." "unnamed bytes are zero."
     pub fn is_formed(bytes: &[u8; Entry::SIZE]) -> bool {
         let entry = Entry::decode(bytes);
         let count = usize::from(entry.piece_count);
-        bytes[0] & !0x03 == 0
+        bytes[entry::INPUTS] & !0x03 == 0
             && count <= MAX_PIECES
             && is_reply(entry.abort_reply, entry.abort_code)
             && matches!(entry.reset_reply, REPLY_WORKING | REPLY_COMPLETE)
-            && bytes[6] == 0
-            && bytes[7] == 0
+            && entry::UNNAMED.iter().all(|&at| bytes[at] == 0)
             && Entry::pieces_are_formed(bytes, count)
     }
 }
 
-/// "Journal event, 8 bytes: kind (1 start, 2 done, 3 failed, 4 aborted, 5
-/// withdrawn), position, code (2; 0 unless failed), job (4)."
+/// The journal event: "kind (1 start, 2 done, 3 failed, 4 aborted, 5
+/// withdrawn), position, code (2; 0 unless failed)", job.
 #[derive(Debug, Clone, Copy, PartialEq, Eq)]
 pub struct Event {
     pub kind: u8,
     pub position: u8,
     pub code: u16,
-    pub job: u32,
+    pub job: u64,
 }
 
 impl Event {
-    pub const SIZE: usize = 8;
+    pub const SIZE: usize = event::SIZE;
 
     pub const START: u8 = 1;
     pub const DONE: u8 = 2;
@@ -377,7 +385,7 @@ impl Event {
     pub const ABORTED: u8 = 4;
     pub const WITHDRAWN: u8 = 5;
 
-    /// An event of eight zeros, which stands for none.
+    /// An event of zeros, which stands for none.
     const NONE: Event = Event {
         kind: 0,
         position: 0,
@@ -385,31 +393,24 @@ impl Event {
         job: 0,
     };
 
-    /// The fields of the eight bytes.
+    /// The fields of the bytes.
     pub fn decode(bytes: &[u8; Event::SIZE]) -> Event {
-        let [kind, position, code0, code1, job0, job1, job2, job3] = *bytes;
         Event {
-            kind,
-            position,
-            code: u16::from_le_bytes([code0, code1]),
-            job: u32::from_le_bytes([job0, job1, job2, job3]),
+            kind: bytes[event::KIND],
+            position: bytes[event::POSITION],
+            code: u16_at(bytes, event::CODE),
+            job: u64_at(bytes, event::JOB),
         }
     }
 
-    /// The eight bytes.
+    /// The bytes.
     pub fn encode(&self) -> [u8; Event::SIZE] {
-        let [code0, code1] = self.code.to_le_bytes();
-        let [job0, job1, job2, job3] = self.job.to_le_bytes();
-        [
-            self.kind,
-            self.position,
-            code0,
-            code1,
-            job0,
-            job1,
-            job2,
-            job3,
-        ]
+        let mut bytes = [0; Event::SIZE];
+        bytes[event::KIND] = self.kind;
+        bytes[event::POSITION] = self.position;
+        put(&mut bytes, event::CODE, &self.code.to_le_bytes());
+        put(&mut bytes, event::JOB, &self.job.to_le_bytes());
+        bytes
     }
 }
 
@@ -443,7 +444,7 @@ impl Events {
     }
 }
 
-/// "flags, pieces used, passes, step, code (2), zero (2), job (4), the record's
+/// "flags, pieces used, passes, step, code (2), zero (2)", job, "the record's
 /// fields as the call leaves them."
 #[derive(Debug, Clone, Copy, PartialEq, Eq)]
 pub struct Report {
@@ -452,33 +453,33 @@ pub struct Report {
     pub passes: u8,
     pub step: u8,
     pub code: u16,
-    pub job: u32,
+    pub job: u64,
 }
 
 impl Report {
-    pub const SIZE: usize = 12;
+    pub const SIZE: usize = report::SIZE;
 
-    /// The named fields of the twelve bytes.
-    pub fn decode(b: &[u8; Report::SIZE]) -> Report {
+    /// The named fields of the bytes.
+    pub fn decode(bytes: &[u8; Report::SIZE]) -> Report {
         Report {
-            flags: b[0],
-            pieces: b[1],
-            passes: b[2],
-            step: b[3],
-            code: u16::from_le_bytes([b[4], b[5]]),
-            job: u32::from_le_bytes([b[8], b[9], b[10], b[11]]),
+            flags: bytes[report::FLAGS],
+            pieces: bytes[report::PIECES],
+            passes: bytes[report::PASSES],
+            step: bytes[report::STEP],
+            code: u16_at(bytes, report::CODE),
+            job: u64_at(bytes, report::JOB),
         }
     }
 
-    /// The twelve bytes.
+    /// The bytes; "zero (2)" stays.
     pub fn encode(&self) -> [u8; Report::SIZE] {
         let mut bytes = [0; Report::SIZE];
-        bytes[0] = self.flags;
-        bytes[1] = self.pieces;
-        bytes[2] = self.passes;
-        bytes[3] = self.step;
-        bytes[4..6].copy_from_slice(&self.code.to_le_bytes());
-        bytes[8..12].copy_from_slice(&self.job.to_le_bytes());
+        bytes[report::FLAGS] = self.flags;
+        bytes[report::PIECES] = self.pieces;
+        bytes[report::PASSES] = self.passes;
+        bytes[report::STEP] = self.step;
+        put(&mut bytes, report::CODE, &self.code.to_le_bytes());
+        put(&mut bytes, report::JOB, &self.job.to_le_bytes());
         bytes
     }
 }

@@ -15,6 +15,9 @@ fn refuse<T>(number: u8, place: u8) -> Result<T, Refusal> {
 ///
 /// | state | 20 | length not 32 × blocks |
 /// |---|---|---|
+///
+/// Document 02, 3/14: "State record: 40 bytes", and "Numbers 20, 30 and 40 use
+/// the new lengths".
 fn check_state_length(table: &Table, state: &[u8]) -> Result<(), Refusal> {
     if state.len() != Record::SIZE * table.count() {
         return refuse(20, 0);
@@ -41,6 +44,8 @@ fn check_records(table: &Table, state: &[u8]) -> Result<(), Refusal> {
 /// | frame | 30 | length not 56 × blocks |
 /// |---|---|---|
 /// | | 31 | an entry not as above; first position |
+///
+/// Document 02, 3/14: "Frame entry: 64 bytes".
 fn check_frame(table: &Table, frame: &[u8]) -> Result<(), Refusal> {
     if frame.len() != Entry::SIZE * table.count() {
         return refuse(30, 0);
@@ -59,6 +64,8 @@ fn check_frame(table: &Table, frame: &[u8]) -> Result<(), Refusal> {
 /// | report | 40 | length not 12 × blocks |
 /// |---|---|---|
 /// | journal | 41 | length under 16 × blocks |
+///
+/// Document 02, 3/14: "Report: 16 bytes", and "41 means under 24 × blocks."
 fn check_output(table: &Table, report: &[u8], journal: &[u8]) -> Result<(), Refusal> {
     if report.len() != Report::SIZE * table.count() {
         return refuse(40, 0);
@@ -83,8 +90,8 @@ fn read_input(table: &Table, records: &[[u8; Record::SIZE]], wire: Wire, bit: bo
 }
 
 /// Calls each block once, in chain order, on buffers that passed the checks;
-/// the number of events written. "Each block writes only its own twelve bytes
-/// of the report." "Events stand in order of call; journal bytes after the last
+/// the number of events written. "Each block writes only its own ... bytes of
+/// the report". "Events stand in order of call; journal bytes after the last
 /// are unchanged."
 fn run(
     table: &Table,

@@ -6,6 +6,9 @@
 /// "slot count N, 1 to 64"
 pub const MAX_SLOTS: usize = 64;
 
+/// "Header, 4 bytes"
+pub const HEADER_SIZE: usize = 4;
+
 /// "Then N slots of 16 bytes"
 pub const SLOT_SIZE: usize = 16;
 

@@ -1,9 +1,10 @@
 //! One call of one block: the cases C1 to C12 of the scope document with all
 //! their values, and the rules beside them.
 
+use reference::layout::{entry as entry_at, piece as piece_at, record as record_at};
 use reference::machine::{
     call, time_between, Entry, Event, Inputs, Piece, Record, Report, ABORTED, BUSY, DONE, ERROR,
-    OUT_OF_STEP,
+    MAX_PIECES, OUT_OF_STEP,
 };
 
 const POSITION: u8 = 1;
@@ -24,7 +25,7 @@ fn entry() -> Entry {
         time_limit: 0,
         time_out: 0,
         clock: 0,
-        pieces: [Piece::ZERO; 4],
+        pieces: [Piece::ZERO; MAX_PIECES],
     }
 }
 
@@ -47,7 +48,7 @@ fn pieces(list: &[Piece]) -> Entry {
     entry
 }
 
-fn job(job: u32, piece: Piece) -> Entry {
+fn job(job: u64, piece: Piece) -> Entry {
     Entry {
         job,
         ..pieces(&[piece])
@@ -86,7 +87,7 @@ fn step(kind: u8, record: &mut Record, entry: &Entry) -> (Report, Vec<Event>) {
 }
 
 /// Flags, pieces used, passes, step, code, job.
-fn report(flags: u8, pieces: u8, passes: u8, step: u8, code: u16, job: u32) -> Report {
+fn report(flags: u8, pieces: u8, passes: u8, step: u8, code: u16, job: u64) -> Report {
     Report {
         flags,
         pieces,
@@ -97,7 +98,7 @@ fn report(flags: u8, pieces: u8, passes: u8, step: u8, code: u16, job: u32) -> R
     }
 }
 
-fn event(kind: u8, code: u16, job: u32) -> Event {
+fn event(kind: u8, code: u16, job: u64) -> Event {
     Event {
         kind,
         position: POSITION,
@@ -106,7 +107,7 @@ fn event(kind: u8, code: u16, job: u32) -> Event {
     }
 }
 
-fn start(job: u32) -> Event {
+fn start(job: u64) -> Event {
     event(Event::START, 0, job)
 }
 
@@ -145,37 +146,102 @@ fn c2_c3_c4() {
     assert_eq!(record, Record::fresh());
 }
 
-/// The first two calls of C5 and C6: job 7 working; start 0, complete.
-fn job_7_done_unseen(kind: u8) -> Record {
-    let (mut record, shown, events) = first(kind, &job(7, working(0)));
-    assert_eq!(shown, report(BUSY, 1, 2, Record::EXECUTING, 0, 7));
-    assert_eq!(events, [start(7)]);
+/// The first two calls of C5 and C6: a job working; start 0, complete.
+fn done_unseen(kind: u8, number: u64) -> Record {
+    let (mut record, shown, events) = first(kind, &job(number, working(0)));
+    assert_eq!(shown, report(BUSY, 1, 2, Record::EXECUTING, 0, number));
+    assert_eq!(events, [start(number)]);
     let (shown, events) = step(kind, &mut record, &stopped(job(0, complete(0))));
-    assert_eq!(shown, report(DONE, 1, 2, Record::DONE, 0, 7));
-    assert_eq!(events, [event(Event::DONE, 0, 7)]);
+    assert_eq!(shown, report(DONE, 1, 2, Record::DONE, 0, number));
+    assert_eq!(events, [event(Event::DONE, 0, number)]);
     assert_eq!(record.reset_request, 1);
     record
 }
 
-#[test]
-fn c5() {
-    let mut record = job_7_done_unseen(1);
-    let (shown, events) = step(1, &mut record, &job(9, complete(0)));
-    assert_eq!(shown, report(DONE, 1, 5, Record::DONE, 0, 9));
-    assert_eq!(events, [start(9), event(Event::DONE, 0, 9)]);
+/// C5 with these two jobs.
+fn expect_c5(number: u64, next: u64) {
+    let mut record = done_unseen(1, number);
+    let (shown, events) = step(1, &mut record, &job(next, complete(0)));
+    assert_eq!(shown, report(DONE, 1, 5, Record::DONE, 0, next));
+    assert_eq!(events, [start(next), event(Event::DONE, 0, next)]);
+    assert_eq!(record.reset_request, 0);
+}
+
+/// C6 with these two jobs.
+fn expect_c6(number: u64, next: u64) {
+    let mut record = done_unseen(5, number);
+    let mut last = job(next, complete(0));
+    last.inputs.abort = true;
+    last.abort_reply = 1;
+    let (shown, events) = step(5, &mut record, &last);
+    assert_eq!(shown, report(ABORTED, 0, 6, Record::ABORTED, 0, next));
+    assert_eq!(events, [start(next), event(Event::ABORTED, 0, next)]);
     assert_eq!(record.reset_request, 0);
 }
 
 #[test]
+fn c5() {
+    expect_c5(7, 9);
+}
+
+#[test]
 fn c6() {
-    let mut record = job_7_done_unseen(5);
-    let mut last = job(9, complete(0));
-    last.inputs.abort = true;
-    last.abort_reply = 1;
-    let (shown, events) = step(5, &mut record, &last);
-    assert_eq!(shown, report(ABORTED, 0, 6, Record::ABORTED, 0, 9));
-    assert_eq!(events, [start(9), event(Event::ABORTED, 0, 9)]);
-    assert_eq!(record.reset_request, 0);
+    expect_c6(7, 9);
+}
+
+/// Jobs that use all eight bytes, some equal in the low or in the high four.
+const LONG_JOBS: [u64; 9] = [
+    0,
+    7,
+    u32::MAX as u64,
+    1 << 32,
+    (1 << 32) + 7,
+    (1 << 40) + 7,
+    0x0807_0605_0403_0201,
+    u64::MAX - 7,
+    u64::MAX,
+];
+
+/// Document 02, 3/14: "The port community's appointment number has eight
+/// bytes."
+#[test]
+fn long_jobs_one_after_the_other() {
+    for number in LONG_JOBS {
+        for next in LONG_JOBS {
+            expect_c5(number, next);
+            expect_c6(number, next);
+        }
+    }
+}
+
+/// A job failed, aborted or withdrawn in a later call has the number of its
+/// start, though the frame has another one then.
+#[test]
+fn long_jobs_at_each_finish() {
+    for number in LONG_JOBS {
+        for other in LONG_JOBS {
+            let mut record = first(1, &job(number, working(0))).0;
+            let (shown, events) = step(1, &mut record, &job(other, piece(2, 5, 0)));
+            assert_eq!(shown, report(ERROR, 1, 2, Record::ERROR, 5, number));
+            assert_eq!(events, [event(Event::FAILED, 5, number)]);
+
+            let mut record = first(5, &job(number, working(0))).0;
+            let mut abort = job(other, complete(0));
+            abort.inputs.abort = true;
+            abort.abort_reply = 1;
+            let (shown, events) = step(5, &mut record, &abort);
+            assert_eq!(shown, report(ABORTED, 0, 3, Record::ABORTED, 0, number));
+            assert_eq!(events, [event(Event::ABORTED, 0, number)]);
+
+            let mut record = first(9, &job(number, working(0))).0;
+            let mut withdrawn = stopped(job(other, working(0)));
+            withdrawn.abort_reply = 1;
+            withdrawn.reset_reply = 0;
+            let (shown, events) = step(9, &mut record, &withdrawn);
+            assert_eq!(shown, report(BUSY, 0, 3, Record::RESETTING, 0, number));
+            assert_eq!(events, [event(Event::WITHDRAWN, 0, number)]);
+        }
+    }
 }
 
 fn time_out(limit: u32, clock: u32, piece: Piece) -> Entry {
@@ -683,34 +749,80 @@ fn running_back_counts_as_none() {
     }
 }
 
+/// The record with one byte changed.
+fn with(bytes: &[u8; Record::SIZE], at: usize, value: u8) -> [u8; Record::SIZE] {
+    let mut other = *bytes;
+    other[at] = value;
+    other
+}
+
+/// Executing, busy only.
+fn executing() -> [u8; Record::SIZE] {
+    let mut record = Record::fresh();
+    record.step = Record::EXECUTING;
+    record.flags = BUSY;
+    record.encode()
+}
+
 #[test]
-fn sound_records() {
-    let zero = [0; 32];
+fn dormant_is_all_zero() {
+    let zero = [0; Record::SIZE];
     for kind in 1..=14 {
         assert!(Record::is_sound(&zero, kind));
-        for at in 0..32 {
-            let mut bytes = zero;
-            bytes[at] = 1;
-            assert!(!Record::is_sound(&bytes, kind), "{at}");
+        for at in 0..Record::SIZE {
+            for value in [1, 0x80, 0xff] {
+                assert!(!Record::is_sound(&with(&zero, at, value), kind), "{at}");
+            }
         }
     }
-    let mut bytes = zero;
-    bytes[0] = Record::EXECUTING;
-    bytes[1] = BUSY;
-    assert!(Record::is_sound(&bytes, 1));
-    for at in [2, 3, 8, 9, 10, 11, 12, 16, 29, 31] {
-        let mut bad = bytes;
-        bad[at] = 1;
-        assert!(!Record::is_sound(&bad, 1), "{at}");
+}
+
+#[test]
+fn sound_bytes() {
+    let good = executing();
+    assert!(Record::is_sound(&good, 1));
+    let zero = [
+        record_at::RESET_REQUEST,
+        record_at::CODE,
+        record_at::CODE + 1,
+        record_at::TIME_LIMIT,
+        record_at::TIME_OUT,
+        record_at::ELAPSED + 5,
+        record_at::ELAPSED + 7,
+    ];
+    for at in zero.into_iter().chain(record_at::UNNAMED) {
+        assert!(!Record::is_sound(&with(&good, at, 1), 1), "{at}");
     }
-    for at in [4, 7, 20, 23, 24, 27, 28] {
-        let mut good = bytes;
-        good[at] = 1;
-        assert!(Record::is_sound(&good, 1), "{at}");
+    // Job and reading are free, and elapsed up to its greatest value.
+    let job = record_at::JOB..record_at::JOB + size_of::<u64>();
+    let reading = record_at::LAST_READING..record_at::LAST_READING + size_of::<u32>();
+    let elapsed = record_at::ELAPSED..=record_at::ELAPSED + 4;
+    for at in job.chain(reading).chain(elapsed) {
+        assert!(Record::is_sound(&with(&good, at, 1), 1), "{at}");
     }
-    bytes[28] = 1;
-    bytes[24] = 1;
-    assert!(!Record::is_sound(&bytes, 1));
+    let held = with(&good, record_at::ELAPSED + 4, 1);
+    assert!(!Record::is_sound(&with(&held, record_at::ELAPSED, 1), 1));
+}
+
+/// "unnamed bytes and bits zero": any value in any of them, on every kind, in a
+/// record that is sound but for it.
+#[test]
+fn unnamed_bytes_of_a_record() {
+    let mut failed = Record::fresh();
+    failed.step = Record::ERROR;
+    failed.flags = ERROR;
+    failed.code = 2;
+    failed.job = u64::MAX;
+    for good in [executing(), failed.encode()] {
+        for kind in 1..=14 {
+            assert!(Record::is_sound(&good, kind));
+            for at in record_at::UNNAMED {
+                for value in 1..=255 {
+                    assert!(!Record::is_sound(&with(&good, at, value), kind), "{at}");
+                }
+            }
+        }
+    }
 }
 
 /// Every step and every flags byte on every kind, written out as sets of kinds.
@@ -729,10 +841,10 @@ fn sound_steps_and_flags() {
     for step in 0..=255 {
         for flags in 0..=255 {
             for kind in 1..=14 {
-                let mut bytes = [0; 32];
-                bytes[0] = step;
-                bytes[1] = flags;
-                bytes[8] = if flags & 4 != 0 { 2 } else { 0 };
+                let mut bytes = [0; Record::SIZE];
+                bytes[record_at::STEP] = step;
+                bytes[record_at::FLAGS] = flags;
+                bytes[record_at::CODE] = if flags & ERROR != 0 { 2 } else { 0 };
                 let sound = kinds(step, flags).contains(&kind);
                 assert_eq!(Record::is_sound(&bytes, kind), sound);
             }
@@ -767,35 +879,59 @@ fn sound_codes_and_requests() {
 fn formed_entries() {
     let good = pieces(&[working(1), piece(2, 2, 0)]).encode();
     assert!(Entry::is_formed(&good));
+    let [first, second, past] = [0, 1, 2].map(entry_at::piece);
     let bad = [
-        (0, 4),
-        (0, 0x80),
-        (1, 1),
-        (1, 5),
-        (1, 255),
-        (2, 2),
-        (2, 3),
-        (3, 2),
-        (4, 2),
-        (6, 1),
-        (7, 1),
-        (24, 3),
-        (25, 1),
-        (26, 2),
-        (34, 1),
-        (34, 0),
-        (40, 1),
-        (55, 1),
+        (entry_at::INPUTS, 4),
+        (entry_at::INPUTS, 0x80),
+        (entry_at::PIECE_COUNT, 1),
+        (entry_at::PIECE_COUNT, 5),
+        (entry_at::PIECE_COUNT, 255),
+        (entry_at::ABORT_REPLY, 2),
+        (entry_at::ABORT_REPLY, 3),
+        (entry_at::RESET_REPLY, 2),
+        (entry_at::ABORT_CODE, 2),
+        (first + piece_at::REPLY, 3),
+        (first + piece_at::UNNAMED, 1),
+        (first + piece_at::CODE, 2),
+        (second + piece_at::CODE, 1),
+        (second + piece_at::CODE, 0),
+        (past, 1),
+        (entry_at::piece(MAX_PIECES) - 1, 1),
     ];
-    for (at, value) in bad {
+    let unnamed = entry_at::UNNAMED.map(|at| (at, 1));
+    for (at, value) in bad.into_iter().chain(unnamed) {
         let mut bytes = good;
         bytes[at] = value;
         assert!(!Entry::is_formed(&bytes), "{at} {value}");
     }
-    for (at, value) in [(0, 3), (1, 3), (1, 4), (2, 1), (3, 0), (8, 9), (31, 9)] {
+    let fine = [
+        (entry_at::INPUTS, 3),
+        (entry_at::PIECE_COUNT, 3),
+        (entry_at::PIECE_COUNT, 4),
+        (entry_at::ABORT_REPLY, 1),
+        (entry_at::RESET_REPLY, 0),
+        (second - 1, 9),
+    ];
+    let job = (0..size_of::<u64>()).map(|byte| (entry_at::JOB + byte, 9));
+    for (at, value) in fine.into_iter().chain(job) {
         let mut bytes = good;
         bytes[at] = value;
         assert!(Entry::is_formed(&bytes), "{at} {value}");
+    }
+}
+
+/// Any value in an unnamed byte of an entry that is formed but for it.
+#[test]
+fn unnamed_bytes_of_an_entry() {
+    for good in [Entry::encode(&entry()), job(u64::MAX, complete(9)).encode()] {
+        assert!(Entry::is_formed(&good));
+        for at in entry_at::UNNAMED {
+            for value in 1..=255 {
+                let mut bytes = good;
+                bytes[at] = value;
+                assert!(!Entry::is_formed(&bytes), "{at} {value}");
+            }
+        }
     }
 }
 

@@ -1,9 +1,15 @@
 //! A fresh state and the scan on bytes: the checks 20 to 41, the wires, the
 //! cases of the scope document, and buffers left alone by a refused call.
 
-use reference::machine::{Entry, Event, Inputs, Piece, Record, Report, BUSY, DONE};
+use reference::layout::{entry as entry_at, record as record_at, report as report_at};
+use reference::machine::{
+    Entry, Event, Events, Inputs, Piece, Record, Report, BUSY, DONE, MAX_PIECES,
+};
 use reference::scan::{fresh, scan};
-use reference::table::{check, Refusal};
+use reference::table::{check, Refusal, HEADER_SIZE, SLOT_SIZE};
+
+/// The least bytes of a journal, a block.
+const EVENTS_SIZE: usize = Events::MAX * Event::SIZE;
 
 fn no<T>(number: u8, place: u8) -> Result<T, Refusal> {
     Err(Refusal { number, place })
@@ -35,8 +41,8 @@ fn one(kind: u8) -> Vec<u8> {
     image(&[(kind, FRAME, FRAME)])
 }
 
-fn entry(start: bool, job: u32, pieces: &[Piece]) -> Entry {
-    let mut list = [Piece::ZERO; 4];
+fn entry(start: bool, job: u64, pieces: &[Piece]) -> Entry {
+    let mut list = [Piece::ZERO; MAX_PIECES];
     list[..pieces.len()].copy_from_slice(pieces);
     Entry {
         inputs: Inputs {
@@ -77,14 +83,14 @@ struct Engine {
 impl Engine {
     fn new(image: Vec<u8>) -> Engine {
         let count = check(&image).unwrap();
-        let mut state = vec![0xee; 32 * count];
+        let mut state = vec![0xee; Record::SIZE * count];
         assert_eq!(fresh(&image, &mut state), Ok(count));
-        assert_eq!(state, vec![0; 32 * count]);
+        assert_eq!(state, vec![0; Record::SIZE * count]);
         Engine {
             image,
             state,
-            report: vec![0xee; 12 * count],
-            journal: vec![0xee; 16 * count + 5],
+            report: vec![0xee; Report::SIZE * count],
+            journal: vec![0xee; EVENTS_SIZE * count + 5],
         }
     }
 
@@ -101,10 +107,12 @@ impl Engine {
             &mut self.journal,
         )
         .unwrap();
-        let (reports, _) = self.report.as_chunks::<12>();
-        assert!(reports.iter().all(|bytes| bytes[6..8] == [0, 0]));
-        let (events, _) = self.journal[..8 * count].as_chunks::<8>();
-        assert!(self.journal[8 * count..].iter().all(|&byte| byte == 0xee));
+        let (reports, _) = self.report.as_chunks::<{ Report::SIZE }>();
+        let unnamed = |bytes: &[u8; Report::SIZE]| report_at::UNNAMED.map(|at| bytes[at]);
+        assert!(reports.iter().all(|bytes| unnamed(bytes) == [0, 0]));
+        let (written, after) = self.journal.split_at(Event::SIZE * count);
+        let (events, _) = written.as_chunks::<{ Event::SIZE }>();
+        assert!(after.iter().all(|&byte| byte == 0xee));
         (
             reports.iter().map(Report::decode).collect(),
             events.iter().map(Event::decode).collect(),
@@ -119,7 +127,7 @@ impl Engine {
 
 /// Flags, pieces used, passes, step, code, job; then kind, code and job of each
 /// event, all of position 1.
-type Seen = ([u32; 6], Vec<[u32; 3]>);
+type Seen = ([u64; 6], Vec<[u64; 3]>);
 
 /// Runs one block from fresh through these entries; what the last scan gives.
 fn last(kind: u8, entries: &[Entry]) -> Seen {
@@ -128,14 +136,14 @@ fn last(kind: u8, entries: &[Entry]) -> Seen {
     for entry in entries {
         let (reports, events) = engine.scan(&[*entry]);
         let r = reports[0];
-        let bytes = [r.flags, r.pieces, r.passes, r.step].map(u32::from);
+        let bytes = [r.flags, r.pieces, r.passes, r.step].map(u64::from);
         let [flags, pieces, passes, step] = bytes;
         assert!(events.iter().all(|event| event.position == 1));
         seen = (
-            [flags, pieces, passes, step, u32::from(r.code), r.job],
+            [flags, pieces, passes, step, u64::from(r.code), r.job],
             events
                 .iter()
-                .map(|event| [u32::from(event.kind), u32::from(event.code), event.job])
+                .map(|event| [u64::from(event.kind), u64::from(event.code), event.job])
                 .collect(),
         );
     }
@@ -179,7 +187,7 @@ fn c7_to_c12() {
         last(3, &[timed])
     };
     let busy = ([1, 1, 2, 1, 0, 0], vec![[1, 0, 0]]);
-    let failed = |code: u32| ([4, 1, 3, 3, code, 0], vec![[1, 0, 0], [3, code, 0]]);
+    let failed = |code: u64| ([4, 1, 3, 3, code, 0], vec![[1, 0, 0], [3, code, 0]]);
     assert_eq!(timed(100, 0, piece(0, 0, 100)), busy);
     assert_eq!(timed(100, 0, piece(0, 0, 101)), failed(1));
     assert_eq!(timed(100, 0, piece(1, 0, 101)), failed(1));
@@ -212,8 +220,10 @@ fn readings_out_of_step() {
             working.time_out = time_out;
             let failed = time_out > 0 && time == 101;
             assert_eq!(engine.flags(&[working]), [if failed { 4 } else { BUSY }]);
-            assert_eq!(engine.state[20..24], [time, 0, 0, 0]);
-            assert_eq!(engine.state[24..32], [time, 0, 0, 0, 0, 0, 0, 0]);
+            let reading = &engine.state[record_at::LAST_READING..][..size_of::<u32>()];
+            assert_eq!(reading, u32::from(time).to_le_bytes());
+            let elapsed = &engine.state[record_at::ELAPSED..][..size_of::<u64>()];
+            assert_eq!(elapsed, u64::from(time).to_le_bytes());
         }
     }
 }
@@ -221,7 +231,7 @@ fn readings_out_of_step() {
 #[test]
 fn no_blocks() {
     let mut image = vec![1, 3, 0, 0];
-    image.extend_from_slice(&[0; 48]);
+    image.extend_from_slice(&[0; 3 * SLOT_SIZE]);
     assert_eq!(fresh(&image, &mut []), Ok(0));
     assert_eq!(scan(&image, &mut [], &[], &mut [], &mut []), Ok(0));
     let mut journal = [7; 9];
@@ -286,6 +296,9 @@ fn abort_wire() {
     assert_eq!(seen, [(3, 9, 1), (4, 0, 2)]);
 }
 
+/// The blocks of [`Buffers::good`].
+const BLOCKS: usize = 2;
+
 /// Two blocks with good buffers, one or more of which a case makes bad.
 struct Buffers {
     image: Vec<u8>,
@@ -301,11 +314,21 @@ impl Buffers {
         let entries = [entry(true, 1, &[COMPLETE]), entry(true, 2, &[COMPLETE])];
         Buffers {
             image,
-            state: vec![0; 64],
+            state: vec![0; Record::SIZE * BLOCKS],
             frame: entries.iter().flat_map(|entry| entry.encode()).collect(),
-            report: vec![0x55; 24],
-            journal: vec![0x66; 32],
+            report: vec![0x55; Report::SIZE * BLOCKS],
+            journal: vec![0x66; EVENTS_SIZE * BLOCKS],
         }
+    }
+
+    fn scan(&mut self) -> Result<usize, Refusal> {
+        scan(
+            &self.image,
+            &mut self.state,
+            &self.frame,
+            &mut self.report,
+            &mut self.journal,
+        )
     }
 
     fn refused(&mut self, number: u8, place: u8) {
@@ -314,14 +337,7 @@ impl Buffers {
             self.report.clone(),
             self.journal.clone(),
         );
-        let answer = scan(
-            &self.image,
-            &mut self.state,
-            &self.frame,
-            &mut self.report,
-            &mut self.journal,
-        );
-        assert_eq!(answer, no(number, place));
+        assert_eq!(self.scan(), no(number, place));
         assert_eq!(before.0, self.state);
         assert_eq!(before.1, self.report);
         assert_eq!(before.2, self.journal);
@@ -335,27 +351,32 @@ fn each_check_from_the_last_to_the_first() {
     buffers.refused(41, 0);
     buffers.report.push(0);
     buffers.refused(40, 0);
-    buffers.frame[56] = 4;
+    buffers.frame[Entry::SIZE + entry_at::INPUTS] = 4;
     buffers.refused(31, 2);
-    buffers.frame[3] = 2;
+    buffers.frame[entry_at::RESET_REPLY] = 2;
     buffers.refused(31, 1);
     buffers.frame.pop();
     buffers.refused(30, 0);
-    buffers.state[32] = 7;
+    buffers.state[Record::SIZE + record_at::STEP] = 7;
     buffers.refused(21, 2);
-    buffers.state[1] = 1;
+    buffers.state[record_at::FLAGS] = 1;
     buffers.refused(21, 1);
     buffers.state.push(0);
     buffers.refused(20, 0);
-    buffers.image[4 + 16 + 2] = 3;
+    buffers.image[HEADER_SIZE + SLOT_SIZE + 2] = 3;
     buffers.refused(10, 2);
     buffers.image.clear();
     buffers.refused(1, 0);
 }
 
+/// All lengths up to twice the right one, which alone is left out.
+fn wrong_lengths(right: usize) -> impl Iterator<Item = usize> {
+    (0..=2 * right).filter(move |&length| length != right)
+}
+
 #[test]
 fn lengths() {
-    for length in (0..100).filter(|&length| length != 64) {
+    for length in wrong_lengths(Record::SIZE * BLOCKS) {
         let mut buffers = Buffers::good();
         buffers.state = vec![0; length];
         buffers.refused(20, 0);
@@ -363,44 +384,115 @@ fn lengths() {
         assert_eq!(fresh(&buffers.image, &mut state), no(20, 0));
         assert_eq!(state, vec![0xee; length]);
     }
-    for length in (0..200).filter(|&length| length != 112) {
+    for length in wrong_lengths(Entry::SIZE * BLOCKS) {
         let mut buffers = Buffers::good();
         buffers.frame = vec![0; length];
         buffers.refused(30, 0);
     }
-    for length in (0..40).filter(|&length| length != 24) {
+    for length in wrong_lengths(Report::SIZE * BLOCKS) {
         let mut buffers = Buffers::good();
         buffers.report = vec![0; length];
         buffers.refused(40, 0);
     }
-    for length in 0..32 {
+    for length in 0..EVENTS_SIZE * BLOCKS {
         let mut buffers = Buffers::good();
         buffers.journal = vec![0; length];
         buffers.refused(41, 0);
     }
 }
 
+/// "41 means under 24 × blocks": four events in a journal with no byte to
+/// spare, or with some that stay.
+#[test]
+fn journal_just_long_enough() {
+    for spare in 0..Event::SIZE {
+        let mut buffers = Buffers::good();
+        buffers.journal = vec![0x66; EVENTS_SIZE * BLOCKS + spare];
+        assert_eq!(buffers.scan(), Ok(Events::MAX * BLOCKS));
+        let after = &buffers.journal[EVENTS_SIZE * BLOCKS..];
+        assert_eq!(after, vec![0x66; spare]);
+    }
+}
+
+/// Document 02, 3/14: "job in 32-39, bytes 4-7 zero" and "job in 56-63, bytes
+/// 8-11 zero", at either position.
+#[test]
+fn unnamed_bytes() {
+    let mut running = Record::fresh();
+    running.step = Record::EXECUTING;
+    running.flags = BUSY;
+    running.job = u64::MAX;
+    for (place, position) in (1..).zip(0..BLOCKS) {
+        for at in record_at::UNNAMED {
+            let mut buffers = Buffers::good();
+            buffers.state = [running.encode(), running.encode()].concat();
+            buffers.state[Record::SIZE * position + at] = 1;
+            buffers.refused(21, place);
+        }
+        for at in entry_at::UNNAMED {
+            let mut buffers = Buffers::good();
+            buffers.frame[Entry::SIZE * position + at] = 1;
+            buffers.refused(31, place);
+        }
+        for byte in 0..size_of::<u64>() {
+            let mut buffers = Buffers::good();
+            buffers.frame[Entry::SIZE * position + entry_at::JOB + byte] = 0xff;
+            buffers.state[Record::SIZE * position + record_at::JOB + byte] = 1;
+            buffers.refused(21, place);
+            buffers.state.fill(0);
+            assert_eq!(buffers.scan(), Ok(Events::MAX * BLOCKS));
+        }
+    }
+}
+
+/// Jobs equal in the low four bytes, and such that only one bit tells them
+/// apart: two blocks in one scan, and one after the other in each block.
+#[test]
+fn jobs_alike_in_the_low_bytes() {
+    let mut engine = Engine::new(image(&[(1, FRAME, FRAME), (9, FRAME, FRAME)]));
+    let idle = [entry(false, 1, &[]), entry(false, 2, &[])];
+    let numbers = [7, (1 << 32) + 7, (1 << 40) + 7, (1 << 63) + 7, u64::MAX, 0];
+    for first in numbers {
+        for second in numbers {
+            let pair = [first, second];
+            let (reports, events) = engine.scan(&pair.map(|job| entry(true, job, &[COMPLETE])));
+            assert_eq!([reports[0].job, reports[1].job], pair);
+            let jobs: Vec<_> = events.iter().map(|e| (e.position, e.job)).collect();
+            assert_eq!(jobs, [(1, first), (1, first), (2, second), (2, second)]);
+            let (records, _) = engine.state.as_chunks::<{ Record::SIZE }>();
+            assert_eq!([0, 1].map(|at| Record::decode(&records[at]).job), pair);
+            let (_, events) = engine.scan(&idle);
+            assert_eq!(events, []);
+            assert!(engine.state.iter().all(|&byte| byte == 0));
+        }
+    }
+}
+
 #[test]
 fn fresh_asks_for_no_sound_state_but_a_good_table() {
     let mut image = one(1);
-    let mut state = [0xff; 32];
+    let mut state = [0xff; Record::SIZE];
     assert_eq!(fresh(&image, &mut state), Ok(1));
-    assert_eq!(state, [0; 32]);
-    image[4] = 0;
-    let mut state = [0xff; 31];
+    assert_eq!(state, [0; Record::SIZE]);
+    image[HEADER_SIZE] = 0;
+    let mut state = [0xff; Record::SIZE - 1];
     assert_eq!(fresh(&image, &mut state), no(7, 1));
-    assert_eq!(state, [0xff; 31]);
+    assert_eq!(state, [0xff; Record::SIZE - 1]);
 }
 
 #[test]
 fn the_kind_decides_what_is_sound() {
     let mut buffers = Buffers::good();
     // Aborting: busy only, on kind 9 but not on kind 1.
-    buffers.state[32..34].copy_from_slice(&[4, 1]);
+    let aborting = |state: &mut [u8]| {
+        state[record_at::STEP] = Record::ABORTING;
+        state[record_at::FLAGS] = BUSY;
+    };
+    aborting(&mut buffers.state[Record::SIZE..]);
     let mut engine = Engine::new(buffers.image.clone());
     engine.state = buffers.state.clone();
     engine.scan(&[entry(false, 0, &[]), entry(false, 0, &[])]);
-    buffers.state[0..2].copy_from_slice(&[4, 1]);
+    aborting(&mut buffers.state);
     buffers.refused(21, 1);
 }
 
@@ -415,9 +507,18 @@ impl Numbers {
         (self.0 >> 33) as u32 % limit
     }
 
+    /// Any number, often one of a few that are alike in the low four bytes.
+    fn job(&mut self) -> u64 {
+        let high = u64::from(self.below(4)) << (32 + 8 * self.below(4));
+        match self.below(4) {
+            0 => u64::from(self.below(u32::MAX)) << 32 | u64::from(self.below(u32::MAX)),
+            _ => high | 7,
+        }
+    }
+
     fn entry(&mut self) -> Entry {
         let code = |reply: u8| if reply == 2 { 5 } else { 0 };
-        let mut pieces = [Piece::ZERO; 4];
+        let mut pieces = [Piece::ZERO; MAX_PIECES];
         let count = self.below(5) as u8;
         let clock = self.below(1000).wrapping_sub(500);
         for piece in pieces.iter_mut().take(usize::from(count)) {
@@ -435,7 +536,7 @@ impl Numbers {
             abort_reply,
             reset_reply: self.below(2) as u8,
             abort_code: code(abort_reply),
-            job: self.below(u32::MAX),
+            job: self.job(),
             time_limit: self.below(50),
             time_out: self.below(100),
             clock,
@@ -483,7 +584,7 @@ fn long_runs_stay_sound() {
                 running[at] = None;
             }
         }
-        let (records, _) = engine.state.as_chunks::<32>();
+        let (records, _) = engine.state.as_chunks::<{ Record::SIZE }>();
         for (record, kind) in records.iter().zip(1u8..) {
             assert!(Record::is_sound(record, kind));
         }
@@ -508,14 +609,7 @@ fn any_bytes_are_answered() {
             bytes[at] = value;
         }
         let before = buffers.report.clone();
-        let answer = scan(
-            &buffers.image,
-            &mut buffers.state,
-            &buffers.frame,
-            &mut buffers.report,
-            &mut buffers.journal,
-        );
-        if answer.is_err() {
+        if buffers.scan().is_err() {
             assert_eq!(before, buffers.report);
         }
     }

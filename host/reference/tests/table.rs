@@ -2,6 +2,19 @@
 //! their order.
 
 use reference::table::{chain, check, find, is_tag, show, Refusal};
+use reference::table::{HEADER_SIZE, SLOT_SIZE};
+
+/// Where some fields of a slot begin.
+const KIND: usize = 0;
+const NEXT: usize = 1;
+const START_CODE: usize = 3;
+const ABORT_CODE: usize = 5;
+const TAG: usize = 8;
+
+/// Where a byte of a slot lies in the image.
+fn at(slot: usize, byte: usize) -> usize {
+    HEADER_SIZE + SLOT_SIZE * (slot - 1) + byte
+}
 
 /// A slot: kind, next, start wire, abort wire, tag.
 type Row = (u8, u8, [u8; 2], [u8; 2], &'static [u8; 8]);
@@ -40,7 +53,7 @@ fn good() -> Vec<u8> {
 /// The good image with one byte of a slot replaced.
 fn with(slot: usize, byte: usize, value: u8) -> Vec<u8> {
     let mut bytes = good();
-    bytes[4 + 16 * (slot - 1) + byte] = value;
+    bytes[at(slot, byte)] = value;
     bytes
 }
 
@@ -74,7 +87,7 @@ fn accepted_with_64_blocks() {
     assert_eq!(check(&bytes), Ok(64));
     assert_eq!(find(&bytes, b"T64     "), Ok(1));
     assert_eq!(find(&bytes, b"T01     "), Ok(64));
-    bytes[4 + 1] = 64;
+    bytes[at(1, NEXT)] = 64;
     assert_eq!(check(&bytes), no(6, 1));
 }
 
@@ -94,9 +107,9 @@ fn header() {
         assert_eq!(check(&bytes), no(3, 0));
     }
     assert_eq!(check(&[1, 0, 0, 0]), no(3, 0));
-    assert_eq!(check(&good()[..67]), no(4, 0));
+    assert_eq!(check(&good()[..at(5, 0) - 1]), no(4, 0));
     assert_eq!(check(&[good(), vec![0]].concat()), no(4, 0));
-    assert_eq!(check(&[good(), vec![0; 16]].concat()), no(4, 0));
+    assert_eq!(check(&[good(), vec![0; SLOT_SIZE]].concat()), no(4, 0));
     let full = image(0, &[SPARE; 65]);
     assert_eq!(check(&full), no(3, 0));
 }
@@ -128,12 +141,12 @@ fn walk() {
 
 #[test]
 fn walk_before_records() {
-    let mut bytes = with(2, 0, 0);
-    bytes[4 + 1] = 99;
+    let mut bytes = with(2, KIND, 0);
+    bytes[at(1, NEXT)] = 99;
     assert_eq!(check(&bytes), no(5, 1));
-    bytes[4 + 1] = 4;
+    bytes[at(1, NEXT)] = 4;
     assert_eq!(check(&bytes), no(6, 1));
-    bytes[4 + 1] = 0;
+    bytes[at(1, NEXT)] = 0;
     assert_eq!(check(&bytes), no(7, 2));
 }
 
@@ -152,7 +165,7 @@ fn kind() {
 /// The good table with a tag in slot 1, which is at position 3.
 fn with_tag(tag: &[u8; 8]) -> Vec<u8> {
     let mut bytes = good();
-    bytes[4 + 8..4 + 16].copy_from_slice(tag);
+    bytes[at(1, TAG)..at(2, 0)].copy_from_slice(tag);
     bytes
 }
 
@@ -260,7 +273,7 @@ fn tags_with_and_without_underscore_are_two() {
     }
     // The same tag again, at the later slot in chain order.
     let mut twice = bytes;
-    twice[4 + 8..4 + 16].copy_from_slice(b"IN_1    ");
+    twice[at(1, TAG)..at(2, 0)].copy_from_slice(b"IN_1    ");
     assert_eq!(check(&twice), no(9, 1));
 }
 
@@ -284,7 +297,7 @@ fn wires() {
         let answer = if abort { Ok(3) } else { no(10, 1) };
         assert_eq!(check(&with(1, 0, kind)), answer);
         let mut code_only = with(2, 0, kind);
-        code_only[4 + 16 + 5] = 1;
+        code_only[at(2, ABORT_CODE)] = 1;
         assert_eq!(check(&code_only), no(10, 2));
     }
 }
@@ -294,31 +307,31 @@ fn record_order() {
     // Each block through 7, 8, 9, 10 before the next: slots 2, 4, 1.
     let mut bytes = with(1, 0, 0);
     assert_eq!(check(&bytes), no(7, 1));
-    bytes[4 + 48 + 3] = 4;
+    bytes[at(4, START_CODE)] = 4;
     assert_eq!(check(&bytes), no(10, 4));
-    bytes[4 + 48 + 8..4 + 64].copy_from_slice(b"LANE2   ");
+    bytes[at(4, TAG)..].copy_from_slice(b"LANE2   ");
     assert_eq!(check(&bytes), no(9, 4));
-    bytes[4 + 48 + 8] = b' ';
+    bytes[at(4, TAG)] = b' ';
     assert_eq!(check(&bytes), no(8, 4));
-    bytes[4 + 48] = 0;
+    bytes[at(4, KIND)] = 0;
     assert_eq!(check(&bytes), no(7, 4));
-    bytes[4 + 16 + 3] = 1;
+    bytes[at(2, START_CODE)] = 1;
     assert_eq!(check(&bytes), no(10, 2));
 }
 
 #[test]
 fn spare() {
-    for byte in 0..16 {
+    for byte in 0..SLOT_SIZE {
         assert_eq!(check(&with(3, byte, 1)), no(11, 3));
     }
     let mut bytes = image(2, &[SPARE, row(1, 0, b"A       "), SPARE, SPARE]);
-    bytes[4 + 63] = 0x20;
+    bytes[at(4, SLOT_SIZE - 1)] = 0x20;
     assert_eq!(check(&bytes), no(11, 4));
-    bytes[4 + 32] = 1;
+    bytes[at(3, KIND)] = 1;
     assert_eq!(check(&bytes), no(11, 3));
-    bytes[4] = 1;
+    bytes[at(1, KIND)] = 1;
     assert_eq!(check(&bytes), no(11, 1));
-    bytes[4 + 16] = 0;
+    bytes[at(2, KIND)] = 0;
     assert_eq!(check(&bytes), no(7, 2));
 }
 
@@ -332,9 +345,9 @@ fn lookup() {
     ] {
         assert_eq!(find(&bytes, tag), Ok(position));
         let shown = show(&bytes, tag);
-        let at = 4 + 16 * (slot - 1);
-        assert_eq!(shown, &bytes[at..at + 16]);
-        assert!(std::ptr::eq(shown, &bytes[at..at + 16]));
+        let slot = &bytes[at(slot, 0)..at(slot + 1, 0)];
+        assert_eq!(shown, slot);
+        assert!(std::ptr::eq(shown, slot));
     }
     let refused: [(&[u8], u8); 6] = [
         (b"", 50),

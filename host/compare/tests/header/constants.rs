@@ -111,7 +111,7 @@ fn record_offsets() -> Numbers {
         ("AT_RECORD_STEP", 1, |r| r.step = Step::Done),
         ("AT_RECORD_FLAGS", 1, |r| r.flags.busy = true),
         ("AT_RECORD_REQUEST", 1, |r| r.reset_request = true),
-        ("AT_RECORD_JOB", 4, |r| r.job = u32::MAX),
+        ("AT_RECORD_JOB", 8, |r| r.job = u64::MAX),
         ("AT_RECORD_CODE", 2, |r| r.code = u16::MAX),
         ("AT_RECORD_TIME_LIMIT", 4, |record| {
             record.time_limit = u32::MAX
@@ -146,7 +146,7 @@ fn entry_offsets() -> Numbers {
         ("AT_ENTRY_ABORT_CODE", 2, |e| {
             e.abort_reply = Reply::Error(u16::MAX)
         }),
-        ("AT_ENTRY_JOB", 4, |e| e.job = u32::MAX),
+        ("AT_ENTRY_JOB", 8, |e| e.job = u64::MAX),
         ("AT_ENTRY_TIME_LIMIT", 4, |e| e.time_limit = u32::MAX),
         ("AT_ENTRY_TIME_OUT", 4, |e| e.time_out = u32::MAX),
         ("AT_ENTRY_CLOCK", 4, |e| e.clock = u32::MAX),
@@ -182,7 +182,7 @@ fn report_offsets() -> Numbers {
         ("AT_REPORT_PASSES", 1, |e| e.passes = 1),
         ("AT_REPORT_STEP", 1, |e| e.step = Step::Done),
         ("AT_REPORT_CODE", 2, |e| e.code = u16::MAX),
-        ("AT_REPORT_JOB", 4, |e| e.job = u32::MAX),
+        ("AT_REPORT_JOB", 8, |e| e.job = u64::MAX),
     ];
     fields(ReportEntry::default(), ReportEntry::encode, &list)
 }
@@ -198,7 +198,7 @@ fn event_offsets() -> Numbers {
         ("AT_EVENT_KIND", 1, |e| e.kind = EventKind::Done),
         ("AT_EVENT_POSITION", 1, |e| e.position = position(2)),
         ("AT_EVENT_CODE", 2, |e| e.code = u16::MAX),
-        ("AT_EVENT_JOB", 4, |e| e.job = u32::MAX),
+        ("AT_EVENT_JOB", 8, |e| e.job = u64::MAX),
     ];
     fields(event, Event::encode, &list)
 }

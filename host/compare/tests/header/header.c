@@ -98,7 +98,7 @@ static void show_record(const char *hex)
 {
     parse(hex, from + LANE_RECORD_BYTES);
     struct lane_record record = lane_get_record(from, 2);
-    printf("%d %d %d %" PRIu32 " %d %" PRIu32 " %" PRIu32 " %" PRIu32 " %" PRIu64 " ", record.step,
+    printf("%d %d %d %" PRIu64 " %d %" PRIu32 " %" PRIu32 " %" PRIu32 " %" PRIu64 " ", record.step,
            record.flags, record.request, record.job, record.code, record.time_limit, record.time_out,
            record.reading, record.elapsed);
     lane_put_record(to, 2, &record);
@@ -109,7 +109,7 @@ static void show_entry(const char *hex)
 {
     parse(hex, from + LANE_ENTRY_BYTES);
     struct lane_entry entry = lane_get_entry(from, 2);
-    printf("%d %d %d %d %d %" PRIu32 " %" PRIu32 " %" PRIu32 " %" PRIu32 " ", entry.inputs, entry.count,
+    printf("%d %d %d %d %d %" PRIu64 " %" PRIu32 " %" PRIu32 " %" PRIu32 " ", entry.inputs, entry.count,
            entry.abort_reply, entry.reset_reply, entry.abort_code, entry.job, entry.time_limit,
            entry.time_out, entry.clock);
     for (int i = 0; i < LANE_MAX_PIECES; i++) {
@@ -126,7 +126,7 @@ static void show_report(const char *hex)
 {
     parse(hex, from + LANE_REPORT_BYTES);
     struct lane_report report = lane_get_report(from, 2);
-    printf("%d %d %d %d %d %" PRIu32 " ", report.flags, report.pieces, report.passes, report.step,
+    printf("%d %d %d %d %d %" PRIu64 " ", report.flags, report.pieces, report.passes, report.step,
            report.code, report.job);
     lane_put_report(to, 2, &report);
     print_put(LANE_REPORT_BYTES, LANE_REPORT_BYTES);
@@ -136,7 +136,7 @@ static void show_event(const char *hex)
 {
     parse(hex, from + LANE_EVENT_BYTES);
     struct lane_event event = lane_get_event(from, 2);
-    printf("%d %d %d %" PRIu32 " ", event.kind, event.position, event.code, event.job);
+    printf("%d %d %d %" PRIu64 " ", event.kind, event.position, event.code, event.job);
     lane_put_event(to, 2, &event);
     print_put(LANE_EVENT_BYTES, LANE_EVENT_BYTES);
 }

@@ -51,7 +51,7 @@ fn record_part(rng: &mut Rng) -> (String, String) {
         u64::from(record.step.number()),
         u64::from(flag_byte(record.flags)),
         u64::from(record.reset_request),
-        u64::from(record.job),
+        record.job,
         u64::from(record.code),
         u64::from(record.time_limit),
         u64::from(record.time_out),
@@ -82,7 +82,7 @@ fn entry_part(rng: &mut Rng) -> (String, String) {
         abort,
         u64::from(entry.reset_complete),
         abort_code,
-        u64::from(entry.job),
+        entry.job,
         u64::from(entry.time_limit),
         u64::from(entry.time_out),
         u64::from(entry.clock),
@@ -104,7 +104,7 @@ fn report_part(rng: &mut Rng) -> (String, String) {
         passes: rng.byte(1, 6),
         step: rng.pick(&Step::ALL),
         code: rng.next() as u16,
-        job: records::word(rng),
+        job: records::job(rng, records::LONG),
     };
     let fields = [
         u64::from(flag_byte(report.flags)),
@@ -112,7 +112,7 @@ fn report_part(rng: &mut Rng) -> (String, String) {
         u64::from(report.passes),
         u64::from(report.step.number()),
         u64::from(report.code),
-        u64::from(report.job),
+        report.job,
     ];
     part("report", &report.encode(), &fields, "")
 }
@@ -122,13 +122,13 @@ fn event_part(rng: &mut Rng) -> (String, String) {
         kind: rng.pick(&EventKind::ALL),
         position: position(rng.range(1, 64)),
         code: rng.next() as u16,
-        job: records::word(rng),
+        job: records::job(rng, records::LONG),
     };
     let fields = [
         u64::from(event.kind.number()),
         event.position.number() as u64,
         u64::from(event.code),
-        u64::from(event.job),
+        event.job,
     ];
     part("event", &event.encode(), &fields, "")
 }

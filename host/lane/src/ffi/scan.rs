@@ -8,14 +8,14 @@ use crate::Refusal;
 ///
 /// ```
 /// let image = *b"\x01\x01\x01\0\x01\0\0\0\0\0\0\0LANE0   ";
-/// let mut state = [0xaa; 32];
+/// let mut state = [0xaa; lane::RECORD_BYTES];
 /// assert_eq!(lane::ffi::fresh(&image, &mut state), Ok(1));
-/// assert_eq!(state, [0; 32]);
+/// assert_eq!(state, [0; lane::RECORD_BYTES]);
 /// assert_eq!(lane::ffi::fresh(&image, &mut state[1..]).unwrap_err().number(), 20);
 /// ```
 ///
 /// # Errors
-/// Refusals 1 to 11, then 20 if the state's length is not 32 bytes a block.
+/// Refusals 1 to 11, then 20 if the state's length is not 40 bytes a block.
 pub fn fresh(image: &[u8], state: &mut [u8]) -> Result<u32, Refusal> {
     // SAFETY: pointers and lengths are those of slices borrowed for the whole call. The one that the
     // function writes is borrowed as mutable, so it shares no byte with the other.
@@ -26,15 +26,16 @@ pub fn fresh(image: &[u8], state: &mut [u8]) -> Result<u32, Refusal> {
 /// all buffers alone.
 ///
 /// ```
+/// use lane::{Entry, ENTRY_BYTES, EVENT_BYTES, RECORD_BYTES, REPORT_BYTES};
+///
 /// let image = *b"\x01\x01\x01\0\x01\0\0\0\0\0\0\0LANE0   ";
-/// let (mut state, mut frame) = ([0; 32], [0; 56]);
-/// let (mut report, mut journal) = ([0; 12], [0; 16]);
-/// frame[0] = 1; // start
-/// frame[8] = 7; // job
+/// let (mut state, mut report) = ([0; RECORD_BYTES], [0; REPORT_BYTES]);
+/// let mut journal = [0; 2 * EVENT_BYTES];
+/// let frame: [u8; ENTRY_BYTES] = Entry { start: true, job: (1 << 40) + 7, ..Entry::default() }.encode();
 /// let events = lane::ffi::scan(&image, &mut state, &frame, &mut report, &mut journal);
 /// assert_eq!(events, Ok(1));
-/// assert_eq!(journal[..8], [1, 1, 0, 0, 7, 0, 0, 0]);
-/// assert_eq!(report, [1, 0, 2, 1, 0, 0, 0, 0, 7, 0, 0, 0]);
+/// assert_eq!(journal[..EVENT_BYTES], [1, 1, 0, 0, 7, 0, 0, 0, 0, 1, 0, 0]);
+/// assert_eq!(report, [1, 0, 2, 1, 0, 0, 0, 0, 7, 0, 0, 0, 0, 1, 0, 0]);
 /// ```
 ///
 /// # Errors

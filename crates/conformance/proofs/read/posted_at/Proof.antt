@@ -15,11 +15,11 @@ add-u16-at c = search needs
 u16-at-requires : tie.Need-u16-at-requires
 u16-at-requires c κs = search needs
 
-add-u32-at : tie.Need-add-u32-at
-add-u32-at c = search needs
+add-u64-at : tie.Need-add-u64-at
+add-u64-at c = search needs
 
-u32-at-requires : tie.Need-u32-at-requires
-u32-at-requires c κs = search needs
+u64-at-requires : tie.Need-u64-at-requires
+u64-at-requires c κs = search needs
 
 add-t7 : tie.Need-add-t7
 add-t7 c = search needs
@@ -32,7 +32,7 @@ returns c =
     let a = c .before .before .before .before .before .args in
     λ i. record {
       position = byteAt (a .s .now) (a .at + eventOffset .position);
-      event = record { kind = byteAt (a .s .now) (a .at); code = c .before .before .u16-at .ensures i; job = c .before .u32-at .ensures i };
+      event = record { kind = byteAt (a .s .now) (a .at); code = c .before .before .u16-at .ensures i; job = c .before .u64-at .ensures i };
     }
 
 pub posted-at-spec : {M : Type 1} → statement M
@@ -42,8 +42,8 @@ posted-at-spec =
     shared-slice-read-t5
     add-u16-at
     u16-at-requires
-    add-u32-at
-    u32-at-requires
+    add-u64-at
+    u64-at-requires
     add-t7
     shared-slice-read-t5-2
     returns)

@@ -33,11 +33,11 @@ add-u16-at c = search needs
 u16-at-requires : tie.Need-u16-at-requires
 u16-at-requires c κs = search needs
 
-add-u32-at : tie.Need-add-u32-at
-add-u32-at c = search needs
+add-u64-at : tie.Need-add-u64-at
+add-u64-at c = search needs
 
-u32-at-requires : tie.Need-u32-at-requires
-u32-at-requires c κs = search needs
+u64-at-requires : tie.Need-u64-at-requires
+u64-at-requires c κs = search needs
 
 returns : tie.Need-returns
 returns c =
@@ -48,7 +48,7 @@ returns c =
       passes = byteAt (a .s .now) (a .at + reportOffset .passes);
       step = byteAt (a .s .now) (a .at + reportOffset .step);
       code = c .before .u16-at .ensures i;
-      job = c .u32-at .ensures i;
+      job = c .u64-at .ensures i;
     }
 
 pub report-at-spec : {M : Type 1} → statement M
@@ -64,6 +64,6 @@ report-at-spec =
     shared-slice-read-t13
     add-u16-at
     u16-at-requires
-    add-u32-at
-    u32-at-requires
+    add-u64-at
+    u64-at-requires
     returns)

@@ -1,4 +1,4 @@
--- `serve::report_call` meets its contract: the part of the report from the block's own place on, with its first twelve bytes written.
+-- `serve::report_call` meets its contract: the part of the report from the block's own place on, with one entry written at its front.
 use Prim.Native.Nat.{_*_}
 use borrow.Author.Needs.{needs}
 use Rattle.block.specs.CallResult.{outcomeOf}

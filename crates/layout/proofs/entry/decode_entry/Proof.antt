@@ -37,6 +37,9 @@ shared-slice-read-t15 c = omega arith
 u16-at-requires : tie.Need-u16-at-requires
 u16-at-requires c κs = search needs
 
+u64-at-requires : tie.Need-u64-at-requires
+u64-at-requires c κs = search needs
+
 u32-at-requires : tie.Need-u32-at-requires
 u32-at-requires c κs = search needs
 
@@ -46,15 +49,12 @@ u32-at-requires-2 c κs = search needs
 u32-at-requires-3 : tie.Need-u32-at-requires-3
 u32-at-requires-3 c κs = search needs
 
-u32-at-requires-4 : tie.Need-u32-at-requires-4
-u32-at-requires-4 c κs = search needs
-
 returns : tie.Need-returns
 unfolding decodeEntry
 returns c =
-    let after-u32-at2 = c .before .before in
-    let after-u32-at = after-u32-at2 .before in
-    let after-u16-at = after-u32-at .before in
+    let after-u32-at = c .before .before in
+    let after-u64-at = after-u32-at .before in
+    let after-u16-at = after-u64-at .before in
     let after-decode-inputs = after-u16-at .before .before .before .before in
     let fourth = after-decode-inputs .before .before in
     let third = fourth .before in
@@ -68,10 +68,10 @@ returns c =
       «abort_reply» = byteAt s (entryOffset .abortReply);
       «reset_reply» = byteAt s (entryOffset .resetReply);
       «abort_code» = after-u16-at .u16-at .ensures i;
-      job = after-u32-at .u32-at .ensures i;
-      limit = after-u32-at2 .u32-at2 .ensures i;
-      timeout = c .before .u32-at3 .ensures i;
-      clock = c .u32-at4 .ensures i;
+      job = after-u64-at .u64-at .ensures i;
+      limit = after-u32-at .u32-at .ensures i;
+      timeout = c .before .u32-at2 .ensures i;
+      clock = c .u32-at3 .ensures i;
       pieces =
           first .decode-piece .ensures i ∷ second .decode-piece2 .ensures i ∷ third .decode-piece3 .ensures i ∷ fourth .decode-piece4 .ensures i ∷ [];
     }
@@ -90,8 +90,8 @@ decode-entry-spec =
     shared-slice-read-t13
     shared-slice-read-t15
     u16-at-requires
+    u64-at-requires
     u32-at-requires
     u32-at-requires-2
     u32-at-requires-3
-    u32-at-requires-4
     returns)

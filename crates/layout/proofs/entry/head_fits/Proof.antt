@@ -1,12 +1,10 @@
--- `entry::head_fits` meets its contract: two unnamed bytes as one number, the rest as defined.
-use Prim.Native.Nat.{ℕ}
+-- `entry::head_fits` meets its contract: each test as defined.
 use mathlib.Core.Bool.{_&&_}
 use mathlib.Core.Path.{ap, _∙_}
 use lib.Dec.{eqb, ltb, leb}
 use Rattle.block.specs.Entry.{Complete, ErrorReply, mostPieces, codeFits}
 use Rattle.layout.specs.Buffer.{byteAt}
 use Rattle.layout.specs.EntryLayout.{entryOffset, decodeEntry}
-use Rattle.layout.proofs.CheckLaws.{head-form}
 use borrow.Author.Needs.{needs}
 use Rattle.layout.proofs.entry.head_fits.Statement.{statement}
 use Rattle.layout.proofs.entry.head_fits.Tie as tie
@@ -16,6 +14,9 @@ shared-slice-read-form c = search needs
 
 u16-at-requires : tie.Need-u16-at-requires
 u16-at-requires c κs = search needs
+
+u32-at-requires : tie.Need-u32-at-requires
+u32-at-requires c κs = search needs
 
 shared-slice-read-replies : tie.Need-shared-slice-read-replies
 shared-slice-read-replies c = search needs
@@ -39,13 +40,12 @@ returns : tie.Need-returns
 unfolding decodeEntry
 returns c =
     let coded = c .before in
-    let formed = coded .before .before .before .before .before in
-    let start = formed .before .before .before in
-    let s = start .args .s .now in
+    let word = coded .before .before .before .before .before in
+    let pair = word .before in
+    let s = pair .before .before .before .args .s .now in
     let abortReply = byteAt s (entryOffset .abortReply) in
-    let unnamed = ap (λ (n : ℕ). ltb (byteAt s (entryOffset .inputs)) 4 && eqb n 0) (formed .u16-at .ensures) ∙ head-form s (start .pre) in
     let code = c .code-fits .ensures ∙ ap (codeFits abortReply) (coded .u16-at2 .ensures) in
-    λ i. unnamed i
+    λ i. ltb (byteAt s (entryOffset .inputs)) 4 && eqb (pair .u16-at .ensures i) 0 && eqb (word .u32-at .ensures i) 0
     && (leb (byteAt s (entryOffset .count)) mostPieces && leb abortReply ErrorReply && leb (byteAt s (entryOffset .resetReply)) Complete && code i)
 
 pub head-fits-spec : {M : Type 1} → statement M
@@ -54,6 +54,7 @@ head-fits-spec =
     (tie.spec
     shared-slice-read-form
     u16-at-requires
+    u32-at-requires
     shared-slice-read-replies
     shared-slice-read-replies-2
     shared-slice-read-replies-3

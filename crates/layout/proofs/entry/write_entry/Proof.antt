@@ -1,4 +1,4 @@
--- `entry::write_entry` meets its contract: the head copied to the front, the pieces put after it.
+-- `entry::write_entry` meets its contract: the head copied to the front, what stands after it put there.
 use native.Mathlib.Omega.{arith}
 use Rattle.words.specs.Word.{bytes}
 use Rattle.layout.specs.EntryLayout.{encodeEntry}
@@ -16,8 +16,8 @@ slice-aggregate-copy c = omega arith
 copy-requires : tie.Need-copy-requires
 copy-requires c κs = search needs
 
-put-pieces-requires : tie.Need-put-pieces-requires
-put-pieces-requires c κs = search needs
+put-tail-requires : tie.Need-put-tail-requires
+put-tail-requires c κs = search needs
 
 same-length : tie.Need-same-length
 same-length c = search needs
@@ -25,14 +25,14 @@ same-length c = search needs
 returns : tie.Need-returns
 unfolding bytes encodeEntry
 returns c =
-    let after-put-pieces = c .before .before in
-    let after-copy = after-put-pieces .before .before .before .before .before in
+    let after-put-tail = c .before .before in
+    let after-copy = after-put-tail .before .before .before .before .before in
     let after-encode-head = after-copy .before .before .before in
     let at-start = after-encode-head .before .before in
     let a = at-start .args in
     let e = after-encode-head .encode-head .ensures in
     let copied = after-copy .copy .ensures .1 in
-    entry-put (a .e) (a .out .now) _ _ (rw e at copied) (after-put-pieces .put-pieces .ensures)
+    entry-put (a .e) (a .out .now) _ _ (rw e at copied) (after-put-tail .put-tail .ensures)
 
 pub write-entry-spec : {M : Type 1} → statement M
 write-entry-spec =
@@ -41,6 +41,6 @@ write-entry-spec =
     encode-head-requires
     slice-aggregate-copy
     copy-requires
-    put-pieces-requires
+    put-tail-requires
     same-length
     returns)

@@ -8,11 +8,11 @@ use borrow.Author.Needs.{needs}
 use Rattle.layout.proofs.record.encode_record.Statement.{statement}
 use Rattle.layout.proofs.record.encode_record.Tie as tie
 
-u32-bytes-requires : tie.Need-u32-bytes-requires
-u32-bytes-requires c κs = search needs
-
 u16-bytes-requires : tie.Need-u16-bytes-requires
 u16-bytes-requires c κs = search needs
+
+u32-bytes-requires : tie.Need-u32-bytes-requires
+u32-bytes-requires c κs = search needs
 
 u32-bytes-requires-2 : tie.Need-u32-bytes-requires-2
 u32-bytes-requires-2 c κs = search needs
@@ -20,11 +20,11 @@ u32-bytes-requires-2 c κs = search needs
 u32-bytes-requires-3 : tie.Need-u32-bytes-requires-3
 u32-bytes-requires-3 c κs = search needs
 
-u32-bytes-requires-4 : tie.Need-u32-bytes-requires-4
-u32-bytes-requires-4 c κs = search needs
-
 u64-bytes-requires : tie.Need-u64-bytes-requires
 u64-bytes-requires c κs = search needs
+
+u64-bytes-requires-2 : tie.Need-u64-bytes-requires-2
+u64-bytes-requires-2 c κs = search needs
 
 flags-byte-requires : tie.Need-flags-byte-requires
 flags-byte-requires c κs = search needs
@@ -110,42 +110,55 @@ array-read-t87 c = omega arith
 array-read-t90 : tie.Need-array-read-t90
 array-read-t90 c = omega arith
 
+array-read-t93 : tie.Need-array-read-t93
+array-read-t93 c = omega arith
+
+array-read-t96 : tie.Need-array-read-t96
+array-read-t96 c = omega arith
+
+array-read-t99 : tie.Need-array-read-t99
+array-read-t99 c = omega arith
+
+array-read-t102 : tie.Need-array-read-t102
+array-read-t102 c = omega arith
+
 returns : tie.Need-returns
 unfolding bytes encodeRecord
 returns c =
-    let after-u64-bytes = c .before .before in
-    let after-u32-bytes4 = after-u64-bytes .before in
-    let after-u32-bytes3 = after-u32-bytes4 .before in
+    let after-u64-bytes2 = c .before .before in
+    let after-u64-bytes = after-u64-bytes2 .before in
+    let after-u32-bytes3 = after-u64-bytes .before in
     let after-u32-bytes2 = after-u32-bytes3 .before in
-    let after-u16-bytes = after-u32-bytes2 .before in
-    let after-u32-bytes = after-u16-bytes .before in
-    let at-start = after-u32-bytes .before in
+    let after-u32-bytes = after-u32-bytes2 .before in
+    let after-u16-bytes = after-u32-bytes .before in
+    let at-start = after-u16-bytes .before in
     λ i.
-    let job = after-u32-bytes .u32-bytes .ensures i in
     let code = after-u16-bytes .u16-bytes .ensures i in
-    let limit = after-u32-bytes2 .u32-bytes2 .ensures i in
-    let timeout = after-u32-bytes3 .u32-bytes3 .ensures i in
-    let last = after-u32-bytes4 .u32-bytes4 .ensures i in
+    let limit = after-u32-bytes .u32-bytes .ensures i in
+    let timeout = after-u32-bytes2 .u32-bytes2 .ensures i in
+    let last = after-u32-bytes3 .u32-bytes3 .ensures i in
     let elapsed = after-u64-bytes .u64-bytes .ensures i in
+    let job = after-u64-bytes2 .u64-bytes2 .ensures i in
     at-start .args .r .step ∷ c .before .flags-byte .ensures .0 i ∷ c .bit .ensures i ∷ 0
-    ∷ getD job 0 0 ∷ getD job 1 0 ∷ getD job 2 0 ∷ getD job 3 0
+    ∷ 0 ∷ 0 ∷ 0 ∷ 0
     ∷ getD code 0 0 ∷ getD code 1 0 ∷ 0 ∷ 0
     ∷ getD limit 0 0 ∷ getD limit 1 0 ∷ getD limit 2 0 ∷ getD limit 3 0
     ∷ getD timeout 0 0 ∷ getD timeout 1 0 ∷ getD timeout 2 0 ∷ getD timeout 3 0
     ∷ getD last 0 0 ∷ getD last 1 0 ∷ getD last 2 0 ∷ getD last 3 0
     ∷ getD elapsed 0 0 ∷ getD elapsed 1 0 ∷ getD elapsed 2 0 ∷ getD elapsed 3 0 ∷ getD elapsed 4 0 ∷ getD elapsed 5 0 ∷ getD elapsed 6 0 ∷ getD elapsed 7 0
+    ∷ getD job 0 0 ∷ getD job 1 0 ∷ getD job 2 0 ∷ getD job 3 0 ∷ getD job 4 0 ∷ getD job 5 0 ∷ getD job 6 0 ∷ getD job 7 0
     ∷ []
 
 pub encode-record-spec : {M : Type 1} → statement M
 encode-record-spec =
     tie.close
     (tie.spec
-    u32-bytes-requires
     u16-bytes-requires
+    u32-bytes-requires
     u32-bytes-requires-2
     u32-bytes-requires-3
-    u32-bytes-requires-4
     u64-bytes-requires
+    u64-bytes-requires-2
     flags-byte-requires
     bit-requires
     array-read-t15
@@ -174,4 +187,8 @@ encode-record-spec =
     array-read-t84
     array-read-t87
     array-read-t90
+    array-read-t93
+    array-read-t96
+    array-read-t99
+    array-read-t102
     returns)

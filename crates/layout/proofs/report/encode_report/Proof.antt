@@ -8,8 +8,8 @@ use borrow.Author.Needs.{needs}
 use Rattle.layout.proofs.report.encode_report.Statement.{statement}
 use Rattle.layout.proofs.report.encode_report.Tie as tie
 
-u32-bytes-requires : tie.Need-u32-bytes-requires
-u32-bytes-requires c κs = search needs
+u64-bytes-requires : tie.Need-u64-bytes-requires
+u64-bytes-requires c κs = search needs
 
 u16-bytes-requires : tie.Need-u16-bytes-requires
 u16-bytes-requires c κs = search needs
@@ -35,24 +35,36 @@ array-read-t22 c = omega arith
 array-read-t25 : tie.Need-array-read-t25
 array-read-t25 c = omega arith
 
+array-read-t28 : tie.Need-array-read-t28
+array-read-t28 c = omega arith
+
+array-read-t31 : tie.Need-array-read-t31
+array-read-t31 c = omega arith
+
+array-read-t34 : tie.Need-array-read-t34
+array-read-t34 c = omega arith
+
+array-read-t37 : tie.Need-array-read-t37
+array-read-t37 c = omega arith
+
 returns : tie.Need-returns
 unfolding bytes encodeReport
 returns c =
-    let after-u32-bytes = c .before .before in
-    let at-start = after-u32-bytes .before .before in
+    let after-u64-bytes = c .before .before in
+    let at-start = after-u64-bytes .before .before in
     let a = at-start .args .a in
     λ i.
-    let job = after-u32-bytes .u32-bytes .ensures i in
+    let job = after-u64-bytes .u64-bytes .ensures i in
     let code = c .before .u16-bytes .ensures i in
     c .flags-byte .ensures .0 i ∷ a .used ∷ a .passes ∷ a .next .step
     ∷ getD code 0 0 ∷ getD code 1 0 ∷ 0 ∷ 0
-    ∷ getD job 0 0 ∷ getD job 1 0 ∷ getD job 2 0 ∷ getD job 3 0 ∷ []
+    ∷ getD job 0 0 ∷ getD job 1 0 ∷ getD job 2 0 ∷ getD job 3 0 ∷ getD job 4 0 ∷ getD job 5 0 ∷ getD job 6 0 ∷ getD job 7 0 ∷ []
 
 pub encode-report-spec : {M : Type 1} → statement M
 encode-report-spec =
     tie.close
     (tie.spec
-    u32-bytes-requires
+    u64-bytes-requires
     u16-bytes-requires
     flags-byte-requires
     array-read-t10
@@ -61,4 +73,8 @@ encode-report-spec =
     array-read-t19
     array-read-t22
     array-read-t25
+    array-read-t28
+    array-read-t31
+    array-read-t34
+    array-read-t37
     returns)
