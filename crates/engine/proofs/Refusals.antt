@@ -1,6 +1,6 @@
 -- The rows of specs/Refusals.antt and the calls of specs/ScanExample.antt, computed: for the reader, so that each number of document 01 is seen to be answered for its bytes and at its place.
 use mathlib.Core.Path.{refl}
-use Rattle.words.specs.Word.{number, bytes}
+use Rattle.words.specs.Word.{number, bytes, allZero}
 use Rattle.kind.specs.Kind.{isKind, isEdge, canAbort, hasAbort, hasTimeLimit, hasTimeOut, isContinuous}
 use Rattle.clock.specs.Clock.{since, tick, past, pastLimit, pastTimeOut}
 use Rattle.table.specs.Blocks.{blocksIn, blockIn}
@@ -9,7 +9,7 @@ use Rattle.table.specs.Walk.{unmet, walkIn, walked}
 use Rattle.table.specs.Chain.{positionFrom}
 use Rattle.table.specs.Record.{tagAmong, recordCheck, recordsFrom, recordsCheck}
 use Rattle.table.specs.Tag.{tagChar, spaces, padded, tagText, tagForm, sameBytes}
-use Rattle.table.specs.Spare.{allZero, sparesFrom, sparesCheck}
+use Rattle.table.specs.Spare.{sparesFrom, sparesCheck}
 use Rattle.table.specs.Check.{verdictOf, checkOf}
 use Rattle.table.specs.Refusals.{answersDue, answersMade, image}
 use Rattle.block.specs.Sound.{zeroed, flagsFit, codeSound, requestSound, stepSound, timesSound, sound}

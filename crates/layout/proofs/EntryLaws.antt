@@ -9,7 +9,7 @@ use lib.Dec.{eqb, ltb}
 use lib.ListN.{length, getD, take, drop, take-append-drop, length-append, length-drop}
 use lib.Seq.{length-take-le, take-all, take-at, drop-at, drop-drop}
 use borrow.Author.Tests.{ltb-true, eqb-true, lt-ltb}
-use Rattle.words.specs.Word.{Bytes, number, bytes, numberAt}
+use Rattle.words.specs.Word.{Bytes, number, bytes, numberAt, allZero, zeroAt}
 use Rattle.words.proofs.WordLaws.{length-bytes, number-of-bytes}
 use Rattle.block.specs.Entry.{mostPieces, entryFits}
 use Rattle.block.specs.declared.entry.Piece.{Piece}
@@ -91,8 +91,8 @@ decode-encode e h =
 -- what the form of the bytes says
 pub record FormBytes (s : List ℕ) : Type 0 where
   pub inputs : byteAt s (entryOffset .inputs) < 4
-  pub pair : numberAt 2 s (entryOffset .unnamedPair) ≡ 0
-  pub word : numberAt 4 s (entryOffset .unnamedWord) ≡ 0
+  pub pair : zeroAt 2 s (entryOffset .unnamedPair) ≡ true
+  pub word : zeroAt 4 s (entryOffset .unnamedWord) ≡ true
   pub first : byteAt s (pieceOffset 0 + pieceField .unnamed) ≡ 0
   pub second : byteAt s (pieceOffset 1 + pieceField .unnamed) ≡ 0
   pub third : byteAt s (pieceOffset 2 + pieceField .unnamed) ≡ 0
@@ -102,15 +102,15 @@ pub form-bytes : (s : List ℕ) → entryForm s ≡ true → FormBytes s
 unfolding entryForm
 form-bytes s h =
     let inputs = byteAt s (entryOffset .inputs) in
-    let pair = numberAt 2 s (entryOffset .unnamedPair) in
-    let word = numberAt 4 s (entryOffset .unnamedWord) in
+    let pair = zeroAt 2 s (entryOffset .unnamedPair) in
+    let word = zeroAt 4 s (entryOffset .unnamedWord) in
     let z : ℕ → Bool = λ i. pieceZero s (pieceOffset i) in
     let at : ℕ → ℕ = λ i. byteAt s (pieceOffset i + pieceField .unnamed) in
-    let p = each (ltb inputs 4) (eqb pair 0 ∷ eqb word 0 ∷ z 0 ∷ z 1 ∷ z 2 ∷ z 3 ∷ []) h in
+    let p = each (ltb inputs 4) (pair ∷ word ∷ z 0 ∷ z 1 ∷ z 2 ∷ z 3 ∷ []) h in
     record {
       inputs = ltb-true inputs 4 (p .0);
-      pair = eqb-true pair 0 (p .1 .0);
-      word = eqb-true word 0 (p .1 .1 .0);
+      pair = p .1 .0;
+      word = p .1 .1 .0;
       first = eqb-true (at 0) 0 (p .1 .1 .1 .0);
       second = eqb-true (at 1) 0 (p .1 .1 .1 .1 .0);
       third = eqb-true (at 2) 0 (p .1 .1 .1 .1 .1 .0);
@@ -203,7 +203,7 @@ module _ (rest : List ℕ) where
   pieces-form (p ∷ q ∷ r ∷ s ∷ t ∷ ps) l = absurd (omega arith)
 
 pub encode-form : (e : Entry) → length (e .pieces) ≡ mostPieces → entryForm (encodeEntry e) ≡ true
-unfolding entryForm encodeEntry bytes number
+unfolding entryForm encodeEntry bytes allZero
 encode-form e l =
     let z = pieces-form (bytes jobWidth (e .job)) (e .pieces) l in
     rw (lt-ltb (inputsByte (e .inputs)) 4 (inputs-bound (e .inputs)), z .0, z .1, z .2, z .3)

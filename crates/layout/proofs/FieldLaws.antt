@@ -2,13 +2,15 @@
 -- For the laws of records, frame entries and events.
 use Prim.Native.Nat.{ℕ, suc, _+_, _^_, _≤_, _<_}
 use mathlib.Core.Path.{_≡_, ap, sym, _∙_}
+use mathlib.Core.Bool.{true}
 use mathlib.Core.List.{List, [], _∷_, _++_, append-nil}
 use native.Mathlib.Omega.{arith}
-use lib.ListN.{length, take, drop, length-drop, take-append-drop, drop-of-length-le}
+use lib.ListN.{length, take, drop, replicate, length-drop, take-append-drop, drop-of-length-le}
 use lib.Seq.{drop-cons, drop-drop, length-take-le}
-use Rattle.words.specs.Word.{Bytes, bytes, numberAt}
-use Rattle.words.proofs.WordLaws.{number-bound, number-zero, bytes-number}
-use Rattle.layout.specs.Buffer.{byteAt, zeros}
+use Rattle.words.specs.Word.{Bytes, bytes, numberAt, zeroAt}
+use Rattle.words.proofs.WordLaws.{number-bound, bytes-number}
+use Rattle.words.proofs.ZeroLaws.{zero-bytes}
+use Rattle.layout.specs.Buffer.{byteAt}
 use Rattle.layout.proofs.BufferLaws.{bytes-take, bytes-drop}
 
 -- the bound of a number read from bytes
@@ -29,9 +31,9 @@ field-back w i s rest b h e =
     window-back w i (bytes w (numberAt w s i)) s rest
     (bytes-number w (take w (drop i s)) (window-length w i s h) (bytes-take w (drop i s) (bytes-drop i s b))) e
 
-pub zero-back : (w i : ℕ) (s rest : List ℕ) → numberAt w s i ≡ 0 → i + w ≤ length s → rest ≡ drop (i + w) s → zeros w ++ rest ≡ drop i s
+pub zero-back : (w i : ℕ) (s rest : List ℕ) → zeroAt w s i ≡ true → i + w ≤ length s → rest ≡ drop (i + w) s → replicate w 0 ++ rest ≡ drop i s
 zero-back w i s rest z h e =
-    window-back w i (zeros w) s rest (sym (number-zero (take w (drop i s)) z ∙ ap zeros (window-length w i s h))) e
+    window-back w i (replicate w 0) s rest (sym (zero-bytes (take w (drop i s)) z ∙ ap (λ (n : ℕ). replicate n 0) (window-length w i s h))) e
 
 pub byte-back : (i x : ℕ) (s rest : List ℕ) → i < length s → x ≡ byteAt s i → rest ≡ drop (suc i) s → x ∷ rest ≡ drop i s
 byte-back i x s rest h e f = rw (e, f) (sym (drop-cons s i 0 h))

@@ -1,18 +1,18 @@
 -- State records as bytes, and back: each undoes the other, and which bytes pass check 21. For the engine, which keeps records in the state buffer.
-use Prim.Native.Nat.{ℕ, _+_, _<_, _≤_}
+use Prim.Native.Nat.{ℕ, _<_, _≤_}
 use mathlib.Core.Path.{_≡_, refl, ap, sym, _∙_}
 use mathlib.Core.Bool.{true}
 use mathlib.Core.List.{List, [], _∷_}
 use native.Mathlib.Omega.{arith}
 use lib.Dec.{eqb, ltb, leb}
-use lib.ListN.{length}
+use lib.ListN.{length, replicate}
 use borrow.Author.Tests.{ltb-true, leb-true, eqb-true, lt-ltb, le-leb}
-use Rattle.words.specs.Word.{Bytes, number, bytes, numberAt}
+use Rattle.words.specs.Word.{Bytes, number, bytes, allZero, zeroAt}
 use Rattle.words.proofs.WordLaws.{number-of-bytes}
 use Rattle.block.specs.Record.{bit, freshRecord}
 use Rattle.block.specs.Sound.{sound}
 use Rattle.block.specs.declared.record.Record.{Record}
-use Rattle.layout.specs.Buffer.{recordLength, byteAt, zeros, jobWidth}
+use Rattle.layout.specs.Buffer.{recordLength, byteAt, jobWidth}
 use Rattle.layout.specs.RecordLayout.{flagsByte, recordOffset, encodeRecord, decodeRecord, recordForm, soundBytes}
 use Rattle.layout.proofs.Fits.{RecordFits}
 use Rattle.layout.proofs.BitLaws.{bit-le, bit-trip, bit-back, flags-bound, flags-trip, flags-back}
@@ -43,8 +43,8 @@ pub record FormBytes (s : List ℕ) : Type 0 where
   pub flags : byteAt s (recordOffset .flags) < 16
   pub request : byteAt s (recordOffset .request) ≤ 1
   pub unnamed : byteAt s (recordOffset .unnamed) ≡ 0
-  pub word : numberAt 4 s (recordOffset .unnamedWord) ≡ 0
-  pub pair : numberAt 2 s (recordOffset .unnamedPair) ≡ 0
+  pub word : zeroAt 4 s (recordOffset .unnamedWord) ≡ true
+  pub pair : zeroAt 2 s (recordOffset .unnamedPair) ≡ true
 
 pub form-bytes : (s : List ℕ) → recordForm s ≡ true → FormBytes s
 unfolding recordForm
@@ -52,15 +52,15 @@ form-bytes s h =
     let flags = byteAt s (recordOffset .flags) in
     let request = byteAt s (recordOffset .request) in
     let unnamed = byteAt s (recordOffset .unnamed) in
-    let word = numberAt 4 s (recordOffset .unnamedWord) in
-    let pair = numberAt 2 s (recordOffset .unnamedPair) in
-    let p = each (ltb flags 16) (leb request 1 ∷ eqb unnamed 0 ∷ eqb word 0 ∷ eqb pair 0 ∷ []) h in
+    let word = zeroAt 4 s (recordOffset .unnamedWord) in
+    let pair = zeroAt 2 s (recordOffset .unnamedPair) in
+    let p = each (ltb flags 16) (leb request 1 ∷ eqb unnamed 0 ∷ word ∷ pair ∷ []) h in
     record {
       flags = ltb-true flags 16 (p .0);
       request = leb-true request 1 (p .1 .0);
       unnamed = eqb-true unnamed 0 (p .1 .1 .0);
-      word = eqb-true word 0 (p .1 .1 .1 .0);
-      pair = eqb-true pair 0 (p .1 .1 .1 .1);
+      word = p .1 .1 .1 .0;
+      pair = p .1 .1 .1 .1;
     }
 
 pub encode-decode : (s : List ℕ) → length s ≡ recordLength → Bytes s → recordForm s ≡ true → encodeRecord (decodeRecord s) ≡ s
@@ -82,18 +82,18 @@ encode-decode s l b h =
 
 -- every record is written in form
 pub encode-form : (r : Record) → recordForm (encodeRecord r) ≡ true
-unfolding recordForm encodeRecord bytes number
+unfolding recordForm encodeRecord bytes allZero
 encode-form r = rw (lt-ltb (flagsByte (r .flags)) 16 (flags-bound (r .flags)), le-leb (bit (r .request)) 1 (bit-le (r .request)))
 
 -- "Fresh is all zero."
-pub encode-fresh : encodeRecord freshRecord ≡ zeros recordLength
+pub encode-fresh : encodeRecord freshRecord ≡ replicate recordLength 0
 unfolding encodeRecord bytes
 encode-fresh = refl
 
-pub fresh-form : recordForm (zeros recordLength) ≡ true
+pub fresh-form : recordForm (replicate recordLength 0) ≡ true
 fresh-form = ap recordForm (sym encode-fresh) ∙ encode-form freshRecord
 
-pub decode-fresh : decodeRecord (zeros recordLength) ≡ freshRecord
+pub decode-fresh : decodeRecord (replicate recordLength 0) ≡ freshRecord
 unfolding decodeRecord number
 decode-fresh = refl
 

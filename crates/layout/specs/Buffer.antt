@@ -1,10 +1,7 @@
 -- Lengths by name, and parts of a buffer by their index: document 01, "State record" and so on, with the lengths of document 02, 3/14.
 use Prim.Native.Nat.{ℕ, _+_, _*_}
-use mathlib.Core.Bool.{Bool}
 use mathlib.Core.List.{List, _++_}
-use lib.Dec.{eqb}
-use lib.ListN.{length, take, drop, getD, replicate}
-use Rattle.words.specs.Word.{numberAt}
+use lib.ListN.{length, take, drop, getD}
 
 -- "State record: 40 bytes"
 abbrev pub recordLength : ℕ
@@ -22,19 +19,12 @@ reportLength = 16
 abbrev pub eventLength : ℕ
 eventLength = 12
 
--- "The port community's appointment number has eight bytes.": a job in each of them
+-- "The port community's appointment number has eight bytes.": the width of a job in every layout
 abbrev pub jobWidth : ℕ
 jobWidth = 8
 
 abbrev pub byteAt : List ℕ → ℕ → ℕ
 byteAt s i = getD s i 0
-
--- unnamed bytes, so many, and whether those from place i on are zero: "unnamed bytes are zero"
-abbrev pub zeros : ℕ → List ℕ
-zeros width = replicate width 0
-
-abbrev pub zeroAt : ℕ → List ℕ → ℕ → Bool
-zeroAt width s i = eqb (numberAt width s i) 0
 
 -- part i, from 0, of a buffer whose parts have `size` bytes each
 abbrev pub part : ℕ → ℕ → List ℕ → List ℕ

@@ -3,10 +3,11 @@ use Prim.Native.Nat.{ℕ, _+_, _*_}
 use mathlib.Core.Bool.{Bool, _&&_}
 use mathlib.Core.List.{List, [], _∷_, _++_}
 use lib.Dec.{eqb, ltb}
-use Rattle.words.specs.Word.{bytes, numberAt}
+use lib.ListN.{replicate}
+use Rattle.words.specs.Word.{bytes, numberAt, zeroAt}
 use Rattle.block.specs.Record.{bit}
 use Rattle.block.specs.Entry.{mostPieces, entryFits}
-use Rattle.layout.specs.Buffer.{byteAt, zeros, zeroAt, jobWidth}
+use Rattle.layout.specs.Buffer.{byteAt, jobWidth}
 use Rattle.layout.specs.RecordLayout.{bitOf}
 use Rattle.block.specs.declared.entry.Inputs.{Inputs}
 use Rattle.block.specs.declared.entry.Piece.{Piece}
@@ -80,8 +81,8 @@ unfoldable pub encodeEntry : Entry → List ℕ
 encodeEntry e =
     (inputsByte (e .inputs) ∷ e .count ∷ e .«abort_reply» ∷ e .«reset_reply» ∷ [])
     ++ (bytes 2 (e .«abort_code»)
-    ++ (zeros 2
-    ++ (zeros 4
+    ++ (replicate 2 0
+    ++ (replicate 4 0
     ++ (bytes 4 (e .limit)
     ++ (bytes 4 (e .timeout)
     ++ (bytes 4 (e .clock)

@@ -3,10 +3,11 @@ use Prim.Native.Nat.{ℕ, _+_, _*_, _/_, _%_}
 use mathlib.Core.Bool.{Bool, _&&_}
 use mathlib.Core.List.{List, [], _∷_, _++_}
 use lib.Dec.{eqb, ltb, leb}
-use Rattle.words.specs.Word.{bytes, numberAt}
+use lib.ListN.{replicate}
+use Rattle.words.specs.Word.{bytes, numberAt, zeroAt}
 use Rattle.block.specs.Record.{bit}
 use Rattle.block.specs.Sound.{sound}
-use Rattle.layout.specs.Buffer.{byteAt, zeros, zeroAt, jobWidth}
+use Rattle.layout.specs.Buffer.{byteAt, jobWidth}
 use Rattle.block.specs.declared.record.Flags.{Flags}
 use Rattle.block.specs.declared.record.Record.{Record}
 
@@ -44,9 +45,9 @@ recordOffset =
 unfoldable pub encodeRecord : Record → List ℕ
 encodeRecord r =
     (r .step ∷ flagsByte (r .flags) ∷ bit (r .request) ∷ 0 ∷ [])
-    ++ (zeros 4
+    ++ (replicate 4 0
     ++ (bytes 2 (r .code)
-    ++ (zeros 2
+    ++ (replicate 2 0
     ++ (bytes 4 (r .limit)
     ++ (bytes 4 (r .timeout)
     ++ (bytes 4 (r .timer .last)

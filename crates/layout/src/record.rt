@@ -3,11 +3,11 @@ use block::record::Flags;
 use block::record::Record;
 use clock::Timer;
 ghost use mathlib.Core.Path.{_≡_};
-ghost use mathlib.Core.Bool.{_&&_};
 ghost use Prim.Native.Nat.{_+_, _<_, _≤_};
 ghost use lib.ListN.{length};
+ghost use Rattle.words.specs.Word.{zeroAt};
 ghost use Rattle.block.specs.Record.{bit};
-ghost use Rattle.layout.specs.Buffer.{recordLength, zeroAt, put};
+ghost use Rattle.layout.specs.Buffer.{recordLength, put};
 ghost use Rattle.layout.specs.RecordLayout.{flagsByte, decodeFlags, encodeRecord, decodeRecord, recordForm, soundBytes};
 
 // Bytes of a state record, and where its fields begin.

@@ -3,14 +3,14 @@
 use mathlib.Core.Path.{refl}
 use Rattle.kind.specs.Kind.{isKind, isEdge, canAbort, hasAbort, hasTimeLimit, hasTimeOut, isContinuous}
 use Rattle.clock.specs.Clock.{since, tick, past, pastLimit, pastTimeOut}
-use Rattle.words.specs.Word.{number, bytes}
+use Rattle.words.specs.Word.{number, bytes, allZero}
 use Rattle.table.specs.Blocks.{blocksIn, blockIn}
 use Rattle.table.specs.Header.{headerCheck}
 use Rattle.table.specs.Walk.{unmet, walkIn, walked}
 use Rattle.table.specs.Chain.{positionFrom}
 use Rattle.table.specs.Record.{tagAmong, recordCheck, recordsFrom, recordsCheck}
 use Rattle.table.specs.Tag.{tagChar, spaces, padded, tagText, tagForm, sameBytes}
-use Rattle.table.specs.Spare.{allZero, sparesFrom, sparesCheck}
+use Rattle.table.specs.Spare.{sparesFrom, sparesCheck}
 use Rattle.table.specs.Check.{verdictOf, checkOf}
 use Rattle.layout.specs.RecordLayout.{encodeRecord, decodeRecord, recordForm, soundBytes}
 use Rattle.layout.specs.EntryLayout.{encodePieces, encodeEntry, decodeEntry, entryForm, entryBytes}

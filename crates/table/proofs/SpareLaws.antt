@@ -1,46 +1,23 @@
--- Laws of the spare slots: zeros by their numbers, for the proof of spare::slot_zero, and what the loop of spare::check_spares keeps, for its proof.
+-- Laws of the spare slots: sixteen zeros by two numbers, for the proof of spare::slot_zero, and what the loop of spare::check_spares keeps, for its proof.
 use Prim.Native.Nat.{ℕ, suc, _+_, _-_, _*_, _≤_, _<_}
-use mathlib.Core.Path.{_≡_, refl, ap, sym, _∙_}
-use mathlib.Core.List.{List, [], _∷_, _++_}
+use mathlib.Core.Path.{_≡_, sym, _∙_}
+use mathlib.Core.List.{List}
 use mathlib.Core.Bool.{true, false, _&&_}
 use native.Mathlib.Omega.{arith}
 use native.Mathlib.Numerals.{add-one}
-use borrow.Author.Tests.{eq-eqb, ne-eqb, eqb-true, eqb-false}
 use lib.Dec.{eqb}
-use lib.ListN.{take, drop}
-use lib.Seq.{take-add, drop-drop}
-use Rattle.words.specs.Word.{number, numberAt}
+use Rattle.words.specs.Word.{numberAt, zeroAt}
+use Rattle.words.proofs.ZeroLaws.{zero-at, zero-split}
 use Rattle.table.specs.Place.{require}
 use Rattle.image.specs.Image.{slotLength, slotCount, tagOffset, tagLength}
 use Rattle.table.specs.Chain.{chainOf}
-use Rattle.table.specs.Spare.{allZero, spareOk, sparesFrom, sparesCheck}
+use Rattle.table.specs.Spare.{spareOk, sparesFrom, sparesCheck}
 use Rattle.table.specs.declared.place.Place.the-variants.{Slot}
 use Rattle.table.specs.declared.place.Verdict.the-variants.{Passed, Failed}
-use Rattle.membership.proofs.Logic.{by-test}
-
--- bytes are all zero where their number is 0
-zero-number : (t : List ℕ) → allZero t ≡ eqb (number t) 0
-unfolding allZero number
-zero-number [] = refl
-zero-number (x ∷ t) =
-    by-test (eqb x 0)
-    (λ a. by-test (eqb (number t) 0)
-    (λ b. let f : x + 256 * number t ≡ 0 = omega (arith, eqb-true x 0 a, eqb-true (number t) 0 b) in simp (a, zero-number t, b, eq-eqb _ _ f))
-    (λ b. simp (a, zero-number t, b, ne-eqb (x + 256 * number t) 0 (λ f. eqb-false (number t) 0 b (omega arith)))))
-    (λ a. simp (a, ne-eqb (x + 256 * number t) 0 (λ f. eqb-false x 0 a (omega arith))))
-
-zero-append : (t u : List ℕ) → allZero (t ++ u) ≡ (allZero t && allZero u)
-unfolding allZero
-zero-append [] u = refl
-zero-append (x ∷ t) u = by-test (eqb x 0) (λ a. simp (a, zero-append t u)) (λ a. simp a)
 
 -- a slot's bytes: those before the tag, and the tag
-pub zero-sixteen : (s : List ℕ) (a : ℕ)
-    → allZero (take slotLength (drop a s)) ≡ (eqb (numberAt tagOffset s a) 0 && eqb (numberAt tagLength s (a + tagOffset)) 0)
-zero-sixteen s a =
-    ap allZero (take-add tagOffset tagLength (drop a s))
-    ∙ (zero-append (take tagOffset (drop a s)) (take tagLength (drop tagOffset (drop a s)))
-    ∙ simp (zero-number, drop-drop))
+pub zero-sixteen : (s : List ℕ) (a : ℕ) → zeroAt slotLength s a ≡ (eqb (numberAt tagOffset s a) 0 && eqb (numberAt tagLength s (a + tagOffset)) 0)
+zero-sixteen s a = zero-split tagOffset tagLength a s ∙ rw (zero-at tagOffset a s, zero-at tagLength (a + tagOffset) s)
 
 -- one slot, and those above it
 spare-at : (image chain : List ℕ) (n slot : ℕ) → slot ≤ n

@@ -1,9 +1,9 @@
 -- Document 01, check 11: "A slot off the chain holds sixteen zeros."
 use Prim.Native.Nat.{ℕ, zero, suc}
-use mathlib.Core.List.{List, [], _∷_}
-use mathlib.Core.Bool.{Bool, true, _&&_, _||_}
-use lib.Dec.{eqb}
+use mathlib.Core.List.{List}
+use mathlib.Core.Bool.{Bool, _||_}
 use Rattle.membership.specs.Membership.{among}
+use Rattle.words.specs.Word.{allZero}
 use Rattle.table.specs.Place.{require}
 use Rattle.image.specs.Image.{slotCount, slotBytes}
 use Rattle.table.specs.Chain.{chainOf}
@@ -11,12 +11,7 @@ use Rattle.table.specs.declared.place.Place.the-variants.{Slot}
 use Rattle.table.specs.declared.place.Verdict.{Verdict}
 use Rattle.table.specs.declared.place.Verdict.the-variants.{Passed}
 
--- "sixteen zeros"
-unfoldable pub allZero : List ℕ → Bool
-allZero [] = true
-allZero (b ∷ t) = eqb b 0 && allZero t
-
--- a slot on the chain, or zeros
+-- a slot on the chain, or "sixteen zeros"
 abbrev pub spareOk : List ℕ → List ℕ → ℕ → Bool
 spareOk image chain slot = among slot chain || allZero (slotBytes image slot)
 

@@ -12,7 +12,7 @@ use Rattle.table.specs.Header.{headerCheck}
 use Rattle.table.specs.Tag.{tagForm, TagOk}
 use Rattle.table.specs.Chain.{chainOf}
 use Rattle.table.specs.Record.{kindOk, startOk, abortOk}
-use Rattle.table.specs.Spare.{allZero}
+use Rattle.words.specs.Word.{allZero}
 use Rattle.table.specs.Check.{checkOf}
 use Rattle.table.specs.Blocks.{Block, fromFrame, blocksOf, blockAt}
 use Rattle.table.specs.declared.place.Verdict.the-variants.{Passed}

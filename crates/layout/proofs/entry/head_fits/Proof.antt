@@ -1,7 +1,9 @@
--- `entry::head_fits` meets its contract: each test as defined.
+-- `entry::head_fits` meets its contract: the unnamed bytes by their numbers, the rest as defined.
+use Prim.Native.Nat.{ℕ}
 use mathlib.Core.Bool.{_&&_}
-use mathlib.Core.Path.{ap, _∙_}
+use mathlib.Core.Path.{ap, sym, _∙_}
 use lib.Dec.{eqb, ltb, leb}
+use Rattle.words.proofs.ZeroLaws.{zero-at}
 use Rattle.block.specs.Entry.{Complete, ErrorReply, mostPieces, codeFits}
 use Rattle.layout.specs.Buffer.{byteAt}
 use Rattle.layout.specs.EntryLayout.{entryOffset, decodeEntry}
@@ -44,8 +46,10 @@ returns c =
     let pair = word .before in
     let s = pair .before .before .before .args .s .now in
     let abortReply = byteAt s (entryOffset .abortReply) in
+    let zeroPair = ap (λ (n : ℕ). eqb n 0) (pair .u16-at .ensures) ∙ sym (zero-at 2 (entryOffset .unnamedPair) s) in
+    let zeroWord = ap (λ (n : ℕ). eqb n 0) (word .u32-at .ensures) ∙ sym (zero-at 4 (entryOffset .unnamedWord) s) in
     let code = c .code-fits .ensures ∙ ap (codeFits abortReply) (coded .u16-at2 .ensures) in
-    λ i. ltb (byteAt s (entryOffset .inputs)) 4 && eqb (pair .u16-at .ensures i) 0 && eqb (word .u32-at .ensures i) 0
+    λ i. ltb (byteAt s (entryOffset .inputs)) 4 && zeroPair i && zeroWord i
     && (leb (byteAt s (entryOffset .count)) mostPieces && leb abortReply ErrorReply && leb (byteAt s (entryOffset .resetReply)) Complete && code i)
 
 pub head-fits-spec : {M : Type 1} → statement M
