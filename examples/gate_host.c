@@ -185,8 +185,8 @@ static void write_entry(uint8_t *frame, uint32_t position, const struct entry *e
 static void print_story(void)
 {
     printf("What happens. The job of a block is the appointment number of a truck.\n"
-           "LANE0  Execute drops while truck %u is read; the job goes on. The next truck,\n"
-           "       %llu, has the same low four bytes, and is another one.\n"
+           "LANE0  Execute drops while truck %u is read; the job goes on. The number of the\n"
+           "       next truck, %llu, has the same low four bytes: two trucks.\n"
            "LANEO  starts when LANE0 is done (a wire); its reply comes after the time-out.\n"
            "LANE1  nothing replies for three scans, then a reply within the time-out.\n"
            "LANEI  is aborted, and its devices need until the next scan for that.\n"

@@ -107,10 +107,14 @@ enum {
     LANE_AT_ENTRY_TIME_OUT = 16,   /* 4  the time-out of a job, 0 for none */
     LANE_AT_ENTRY_CLOCK = 20,      /* 4  the clock at the call */
     LANE_AT_ENTRY_PIECES = 24,     /*    the pieces */
-    LANE_AT_ENTRY_JOB = 56,        /* 8  the job, any number; the offsets below are within a piece: */
-    LANE_AT_PIECE_REPLY = 0,       /* 1  LANE_REPLY_.. of the piece */
-    LANE_AT_PIECE_CODE = 2,        /* 2  2 to 65535 with an error as reply, else 0 */
-    LANE_AT_PIECE_CLOCK = 4        /* 4  the clock after the piece */
+    LANE_AT_ENTRY_JOB = 56         /* 8  the job, any number */
+};
+
+/* A piece of a frame entry. */
+enum {
+    LANE_AT_PIECE_REPLY = 0, /* 1  LANE_REPLY_.. of the piece */
+    LANE_AT_PIECE_CODE = 2,  /* 2  2 to 65535 with an error as reply, else 0 */
+    LANE_AT_PIECE_CLOCK = 4  /* 4  the clock after the piece */
 };
 
 /* A report entry, at LANE_REPORT_BYTES * (position - 1): the block as its call leaves it. */

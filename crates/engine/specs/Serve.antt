@@ -42,7 +42,7 @@ callIn b i frame state =
     callOf (b .kind) (inputsOf b (flagsIn state) (entryIn frame i .inputs)) (entryIn frame i) (recordIn state i)
 
 -- "Events stand in order of call; journal bytes after the last are unchanged."
--- what the call leaves: its record in the state, "its own" entry "of the report", its events after those before; position i + 1
+-- what the call leaves: its record in the state, "its own twelve bytes of the report" (sixteen since 3/14), its events after those before; position i + 1
 abbrev pub written : ℕ → Outcome → Buffers → Buffers
 written i o b =
     record {

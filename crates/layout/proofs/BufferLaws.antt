@@ -170,6 +170,10 @@ put-put at v w s fits =
 pub put-next : (at n : ℕ) (v w s : List ℕ) → length v ≡ n → at + n + length w ≤ length s → put (at + n) w (put at v s) ≡ put at (v ++ w) s
 put-next at n v w s full fits = ap (λ (m : ℕ). put (at + m) w (put at v s)) (sym full) ∙ put-put at v w s (omega arith)
 
+pub put-both : (at n : ℕ) (v w s s₁ s₂ : List ℕ) → length v ≡ n → at + n + length w ≤ length s → s₁ ≡ put at v s → s₂ ≡ put (at + n) w s₁
+    → s₂ ≡ put at (v ++ w) s
+put-both at n v w s s₁ s₂ full fits e₁ e₂ = e₂ ∙ ap (put (at + n) w) e₁ ∙ put-next at n v w s full fits
+
 -- two buffers, one after the other: a part of each, and a value put in each
 pub part-left : (size i : ℕ) (x y : List ℕ) → size * i + size ≤ length x → part size i (x ++ y) ≡ part size i x
 part-left size i x y h =

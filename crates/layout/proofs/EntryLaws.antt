@@ -252,7 +252,7 @@ pieces-put z ps s s₁ s₂ s₃ s₄ l f e₁ e₂ e₃ e₄ =
     let g₄ = fill-whole (pieceOffset 3) pieceLength (h ++ a ++ b ++ c) d s s₃ s₄ l₃ (piece-length (p 3)) g₃ e₄ in
     g₄ ∙ after-four h a b c d (drop piecesEnd s) ∙ ap (λ (x : List ℕ). h ++ (x ++ drop piecesEnd s)) (pieces-parts z ps l)
 
--- the pieces and the job put after the head, and all three
+-- the pieces and the job put after the head
 pub tail-put : (ps : List Piece) (job : ℕ) (s s₁ s₂ : List ℕ) → length ps ≡ mostPieces → entryLength ≤ length s
     → s₁ ≡ take headLength s ++ (encodePieces ps ++ drop piecesEnd s) → s₂ ≡ put (entryOffset .job) (bytes jobWidth job) s₁
     → s₂ ≡ take headLength s ++ (encodePieces ps ++ bytes jobWidth job ++ drop entryLength s)
@@ -268,6 +268,7 @@ head-length : (e : Entry) → length (take headLength (encodeEntry e)) ≡ headL
 unfolding encodeEntry bytes
 head-length e = refl
 
+-- the head, and what stands after it put there
 pub entry-put : (e : Entry) (s s₁ s₂ : List ℕ) → s₁ ≡ take headLength (encodeEntry e) ++ drop headLength s
     → s₂ ≡ take headLength s₁ ++ (encodePieces (e .pieces) ++ bytes jobWidth (e .job) ++ drop entryLength s₁) → s₂ ≡ encodeEntry e ++ drop entryLength s
 entry-put e s s₁ s₂ e₁ e₂ =

@@ -11,7 +11,7 @@ ghost use lib.ListN.{length, take, drop};
 ghost use Rattle.words.specs.Word.{bytes};
 ghost use Rattle.block.specs.Entry.{pieceForm, pieceFits, headFits};
 ghost use Rattle.layout.specs.Buffer.{entryLength, jobWidth, put};
-ghost use Rattle.layout.specs.EntryLayout.{entryOffset, pieceLength, headLength, piecesEnd, headForm, pieceZero};
+ghost use Rattle.layout.specs.EntryLayout.{pieceLength, headLength, piecesEnd, headForm, pieceZero};
 ghost use Rattle.layout.specs.EntryLayout.{inputsByte, decodeInputs, encodePiece, decodePiece, encodePieces, encodeEntry, decodeEntry, entryBytes};
 
 // Bytes of a frame entry, of each of its four pieces, and of what stands before them.
@@ -240,15 +240,6 @@ fn put_pieces(s: &mut [u8], ps: [Piece; PIECES])
     put_piece(s, FOURTH_PIECE, ps[3]);
 }
 
-// The job is written after the pieces.
-fn put_job(s: &mut [u8], job: u64)
-    requires { ⌜ entryLength ≤ length (now s) ⌝ }
-    ensures { λ _. ⌜ now (s .exit) ≡ put (entryOffset .job) (bytes jobWidth job) (now (s .entry)) ⌝ }
-{
-    let b = words::u64_bytes(job);
-    bytes::copy(&b, &mut s[JOB_OFFSET..]);
-}
-
 // What stands after the head.
 fn put_tail(s: &mut [u8], ps: [Piece; PIECES], job: u64)
     requires { ⌜ entryLength ≤ length (now s) ⌝ }
@@ -256,7 +247,7 @@ fn put_tail(s: &mut [u8], ps: [Piece; PIECES], job: u64)
         ≡ take headLength (now (s .entry)) ++ (encodePieces ps ++ bytes jobWidth job ++ drop entryLength (now (s .entry))) ⌝ }
 {
     put_pieces(s, ps);
-    put_job(s, job);
+    crate::job::put_job(s, JOB_OFFSET, job);
 }
 
 // The first bytes of what is lent become the entry.

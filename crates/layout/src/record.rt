@@ -4,11 +4,11 @@ use block::record::Record;
 use clock::Timer;
 ghost use mathlib.Core.Path.{_≡_};
 ghost use Prim.Native.Nat.{_+_, _<_, _≤_};
-ghost use lib.ListN.{length};
+ghost use lib.ListN.{length, take};
 ghost use Rattle.words.specs.Word.{zeroAt};
 ghost use Rattle.block.specs.Record.{bit};
 ghost use Rattle.layout.specs.Buffer.{recordLength, put};
-ghost use Rattle.layout.specs.RecordLayout.{flagsByte, decodeFlags, encodeRecord, decodeRecord, recordForm, soundBytes};
+ghost use Rattle.layout.specs.RecordLayout.{recordOffset, flagsByte, decodeFlags, encodeRecord, decodeRecord, recordForm, soundBytes};
 
 // Bytes of a state record, and where its fields begin.
 pub const RECORD_BYTES: usize = 40;
@@ -80,16 +80,15 @@ pub fn decode_record(s: &[u8]) -> Record
     }
 }
 
-// The bytes of a record.
-pub fn encode_record(r: Record) -> [u8; RECORD_BYTES]
-    ensures { λ b. ⌜ b ≡ encodeRecord r ⌝ }
+// What stands before the job.
+fn encode_head(r: Record) -> [u8; JOB_OFFSET]
+    ensures { λ b. ⌜ b ≡ take (recordOffset .job) (encodeRecord r) ⌝ }
 {
     let code = words::u16_bytes(r.code);
     let limit = words::u32_bytes(r.limit);
     let timeout = words::u32_bytes(r.timeout);
     let last = words::u32_bytes(r.timer.last);
     let elapsed = words::u64_bytes(r.timer.elapsed);
-    let job = words::u64_bytes(r.job);
     [
         r.step,
         flags_byte(r.flags),
@@ -123,14 +122,6 @@ pub fn encode_record(r: Record) -> [u8; RECORD_BYTES]
         elapsed[5],
         elapsed[6],
         elapsed[7],
-        job[0],
-        job[1],
-        job[2],
-        job[3],
-        job[4],
-        job[5],
-        job[6],
-        job[7],
     ]
 }
 
@@ -139,8 +130,9 @@ pub fn put_record(s: &mut [u8], at: usize, r: Record)
     requires { ⌜ at + recordLength ≤ length (now s) ⌝ }
     ensures { λ _. ⌜ now (s .exit) ≡ put at (encodeRecord r) (now (s .entry)) ⌝ }
 {
-    let b = encode_record(r);
-    bytes::copy(&b, &mut s[at..]);
+    let head = encode_head(r);
+    bytes::copy(&head, &mut s[at..]);
+    crate::job::put_job(s, at + JOB_OFFSET, r.job);
 }
 
 // The unnamed bytes and bits, and the request.

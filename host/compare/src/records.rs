@@ -63,8 +63,8 @@ pub const LONG: u64 = (1 << 40) + 7;
 /// The low four bytes of a job.
 pub const LOW: u64 = u32::MAX as u64;
 
-/// A job: none of its bytes set, all, the low four or the high four alone, or any; often another one, or like that in
-/// the low or in the high four bytes, or in all bits but one.
+/// A job: none of its bytes set, all, the low four or the high four alone, or any; often `like`, or equal to it in the
+/// low or in the high four bytes, or in all bits but one.
 pub fn job(rng: &mut Rng, like: u64) -> u64 {
     let high = u64::from(word(rng)) << u32::BITS;
     match rng.below(16) {

@@ -18,6 +18,7 @@ use lane::{Engine, Entry, EventKind, Frame, Record, Refusal, ReportEntry, State}
 use lane::{ENTRY_BYTES, EVENT_BYTES, RECORD_BYTES, REPORT_BYTES};
 use reference::layout;
 use reference::layout::{entry as at_entry, record as at};
+use reference::machine;
 use std::iter;
 
 /// The numbers that a scan of an accepted table gives.
@@ -248,6 +249,46 @@ fn bytes_a_block() {
     let report = layout::report::SIZE;
     let reference = [record, layout::entry::SIZE, report, layout::event::SIZE];
     assert_eq!(binding, reference);
+}
+
+/// The binding and the reference read the same fields in a record and in an entry.
+#[test]
+fn fields() {
+    let mut rng = Rng::new(211);
+    for case in 0..2_000 {
+        let bytes = sound(&mut rng, 1 + (case % 14) as u8);
+        let (one, other) = (Record::decode(&bytes), machine::Record::decode(&bytes));
+        let one = one.expect("a record in form");
+        assert_eq!((one.step.number(), one.job), (other.step, other.job));
+        assert_eq!(u8::from(one.reset_request), other.reset_request);
+        assert_eq!((one.code, one.elapsed), (other.code, other.elapsed));
+        assert_eq!(one.last_reading, other.last_reading);
+        let (limits, others) = (
+            [one.time_limit, one.time_out],
+            [other.time_limit, other.time_out],
+        );
+        assert_eq!(limits, others);
+
+        let (drive, mut clock) = (Drive::any(&mut rng), Clock::new(&mut rng));
+        let bytes = entry(&mut rng, drive, &mut clock);
+        let (one, other) = (Entry::decode(&bytes), machine::Entry::decode(&bytes));
+        let one = one.expect("an entry in form");
+        assert_eq!(
+            [one.start, one.abort],
+            [other.inputs.start, other.inputs.abort]
+        );
+        assert_eq!((one.job, one.clock), (other.job, other.clock));
+        assert_eq!(
+            [one.time_limit, one.time_out],
+            [other.time_limit, other.time_out]
+        );
+        let clocks = one.pieces.as_slice().iter().map(|piece| piece.clock);
+        assert!(clocks.eq(other
+            .pieces
+            .iter()
+            .take(other.piece_count.into())
+            .map(|piece| piece.clock)));
+    }
 }
 
 /// A table of so many blocks and a scan of it that is accepted.

@@ -1,13 +1,12 @@
--- `entry::put_job` meets its contract: the bytes copied to the front of the part from the job's place on.
+-- `job::put_job` meets its contract: the bytes copied to the front of the part from `at` on.
 use native.Mathlib.Omega.{arith}
 use Rattle.words.specs.Word.{bytes}
 use Rattle.words.proofs.WordLaws.{length-bytes}
 use Rattle.layout.specs.Buffer.{jobWidth}
-use Rattle.layout.specs.EntryLayout.{entryOffset}
 use Rattle.layout.proofs.BufferLaws.{put-front}
 use borrow.Author.Needs.{needs}
-use Rattle.layout.proofs.entry.put_job.Statement.{statement}
-use Rattle.layout.proofs.entry.put_job.Tie as tie
+use Rattle.layout.proofs.job.put_job.Statement.{statement}
+use Rattle.layout.proofs.job.put_job.Tie as tie
 
 u64-bytes-requires : tie.Need-u64-bytes-requires
 u64-bytes-requires c κs = search needs
@@ -39,7 +38,7 @@ returns c =
     let a = at-start .args in
     let e = after-u64-bytes .u64-bytes .ensures in
     let h = after-copy .copy .ensures .1 in
-    put-front (entryOffset .job) jobWidth (a .s .now) (bytes jobWidth (a .job)) (after-copy .copy .last .1 .0) (length-bytes jobWidth (a .job)) (rw e at h)
+    put-front (a .at) jobWidth (a .s .now) (bytes jobWidth (a .job)) (after-copy .copy .last .1 .0) (length-bytes jobWidth (a .job)) (rw e at h)
 
 pub put-job-spec : {M : Type 1} → statement M
 put-job-spec =
