@@ -128,8 +128,8 @@ abbrev longRecords : List (Row ScanInput)
 longRecords =
     map (λ (i : ℕ). inState (recordOffset .job + i) 1 gives refusal 21 1) eightBytes
     ++ map (λ (i : ℕ). withState (set (recordOf 0 Executing busy) (recordOffset .job + i) 1) gives value 1) eightBytes
-    ++ map (λ (i : ℕ). inState (secondRecord + recordOffset .unnamedWord + i) 1 gives refusal 21 2) fourBytes
-    ++ map (λ (i : ℕ). withState (set (recordOf 0 Executing busy) (recordOffset .unnamedWord + i) 1) gives refusal 21 1) fourBytes
+    ++ map (λ (i : ℕ). inState (secondRecord + recordOffset .unnamedQuad + i) 1 gives refusal 21 2) fourBytes
+    ++ map (λ (i : ℕ). withState (set (recordOf 0 Executing busy) (recordOffset .unnamedQuad + i) 1) gives refusal 21 1) fourBytes
 
 unfoldable pub stateRows : List (Row ScanInput)
 stateRows =
@@ -232,8 +232,8 @@ pastCount =
 abbrev longEntries : List (Row ScanInput)
 longEntries =
     map (λ (i : ℕ). inFrame (secondEntry + entryOffset .job + i) 255 gives value 1) eightBytes
-    ++ map (λ (i : ℕ). inFrame (entryOffset .unnamedWord + i) 1 gives refusal 31 1) fourBytes
-    ++ map (λ (i : ℕ). withFrame (set (piece secondEntry 1) (secondEntry + entryOffset .unnamedWord + i) 255) gives refusal 31 2) fourBytes
+    ++ map (λ (i : ℕ). inFrame (entryOffset .unnamedQuad + i) 1 gives refusal 31 1) fourBytes
+    ++ map (λ (i : ℕ). withFrame (set (piece secondEntry 1) (secondEntry + entryOffset .unnamedQuad + i) 255) gives refusal 31 2) fourBytes
 
 unfoldable pub frameRows : List (Row ScanInput)
 frameRows =

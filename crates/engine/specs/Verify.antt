@@ -13,7 +13,7 @@ use Rattle.layout.specs.RecordLayout.{soundBytes}
 use Rattle.layout.specs.EntryLayout.{entryBytes}
 use Rattle.engine.specs.Told.{Told}
 
--- 20: "length not" 40 "× blocks"
+-- 20: "length not 32 × blocks"; 40 since 3/14
 abbrev pub stateLength : List Block → List ℕ → Verdict → Verdict
 stateLength blocks state below = require (eqb (length state) (recordLength * length blocks)) 20 Header below
 
@@ -26,7 +26,7 @@ stateSound i (b ∷ bs) state = require (soundBytes (b .kind) (part recordLength
 abbrev pub stateCheck : List Block → List ℕ → Verdict
 stateCheck blocks state = stateLength blocks state (stateSound 0 blocks state)
 
--- 30: "length not" 64 "× blocks"
+-- 30: "length not 56 × blocks"; 64 since 3/14
 abbrev pub frameLength : List Block → List ℕ → Verdict → Verdict
 frameLength blocks frame below = require (eqb (length frame) (entryLength * length blocks)) 30 Header below
 
@@ -39,7 +39,7 @@ frameForm i (b ∷ bs) frame = require (entryBytes (part entryLength i frame)) 3
 abbrev pub frameCheck : List Block → List ℕ → Verdict
 frameCheck blocks frame = frameLength blocks frame (frameForm 0 blocks frame)
 
--- 40: "length not" 16 "× blocks"
+-- 40: "length not 12 × blocks"; 16 since 3/14
 abbrev pub reportLengthIs : List Block → List ℕ → Verdict → Verdict
 reportLengthIs blocks report below = require (eqb (length report) (reportLength * length blocks)) 40 Header below
 

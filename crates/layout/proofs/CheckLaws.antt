@@ -47,18 +47,18 @@ module _ (s : List ℕ) (i : ℕ) (h : i + 2 ≤ length s) where
 
 -- the form of a record: the request and the byte after it as one number
 pub form-tests : (s : List ℕ) → recordLength ≤ length s
-    → ltb (byteAt s (recordOffset .flags)) 16 && leb (numberAt 2 s (recordOffset .request)) 1 && eqb (numberAt 4 s (recordOffset .unnamedWord)) 0
+    → ltb (byteAt s (recordOffset .flags)) 16 && leb (numberAt 2 s (recordOffset .request)) 1 && eqb (numberAt 4 s (recordOffset .unnamedQuad)) 0
     && eqb (numberAt 2 s (recordOffset .unnamedPair)) 0
     ≡ recordForm s
 unfolding recordForm
 form-tests s h =
     rw (
       pair-low s (recordOffset .request) (omega arith) 1 (omega arith),
-      zero-at 4 (recordOffset .unnamedWord) s,
+      zero-at 4 (recordOffset .unnamedQuad) s,
       zero-at 2 (recordOffset .unnamedPair) s,
     )
     (flat (ltb (byteAt s (recordOffset .flags)) 16) (leb (byteAt s (recordOffset .request)) 1) (eqb (byteAt s (recordOffset .unnamed)) 0)
-    (eqb (numberAt 4 s (recordOffset .unnamedWord)) 0) (eqb (numberAt 2 s (recordOffset .unnamedPair)) 0))
+    (eqb (numberAt 4 s (recordOffset .unnamedQuad)) 0) (eqb (numberAt 2 s (recordOffset .unnamedPair)) 0))
   where
     flat : (a b c d e : Bool) → a && (b && c) && d && e ≡ a && b && c && d && e
     flat false b c d e = refl
@@ -91,7 +91,7 @@ module _ (s : List ℕ) (l : recordLength ≤ length s) where
       zeroAt 1 s (recordOffset .flags)
       ∷ zeroAt 1 s (recordOffset .request)
       ∷ zeroAt 1 s (recordOffset .unnamed)
-      ∷ zeroAt 4 s (recordOffset .unnamedWord)
+      ∷ zeroAt 4 s (recordOffset .unnamedQuad)
       ∷ zeroAt 2 s (recordOffset .code)
       ∷ zeroAt 2 s (recordOffset .unnamedPair)
       ∷ zeroAt 4 s (recordOffset .limit)
@@ -111,7 +111,7 @@ module _ (s : List ℕ) (l : recordLength ≤ length s) where
         zero-split (recordOffset .limit) 4 0 s,
         zero-split (recordOffset .unnamedPair) 2 0 s,
         zero-split (recordOffset .code) 2 0 s,
-        zero-split (recordOffset .unnamedWord) 4 0 s,
+        zero-split (recordOffset .unnamedQuad) 4 0 s,
         zero-split (recordOffset .unnamed) 1 0 s,
         zero-split (recordOffset .request) 1 0 s,
         zero-split (recordOffset .flags) 1 0 s,
@@ -164,7 +164,7 @@ module _ (s : List ℕ) (l : recordLength ≤ length s) where
           is-byte (recordOffset .flags) (omega arith) flags-is,
           is-byte (recordOffset .request) (omega arith) (omega (arith, f .request, unasked)),
           is-byte (recordOffset .unnamed) (omega arith) (f .unnamed),
-          f .word,
+          f .quad,
           is-zero 2 (recordOffset .code) s (ap (λ (x : Record). x .code) fresh),
           f .pair,
           is-zero 4 (recordOffset .limit) s (ap (λ (x : Record). x .limit) fresh),

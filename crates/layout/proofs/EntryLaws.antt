@@ -92,7 +92,7 @@ decode-encode e h =
 pub record FormBytes (s : List ℕ) : Type 0 where
   pub inputs : byteAt s (entryOffset .inputs) < 4
   pub pair : zeroAt 2 s (entryOffset .unnamedPair) ≡ true
-  pub word : zeroAt 4 s (entryOffset .unnamedWord) ≡ true
+  pub quad : zeroAt 4 s (entryOffset .unnamedQuad) ≡ true
   pub first : byteAt s (pieceOffset 0 + pieceField .unnamed) ≡ 0
   pub second : byteAt s (pieceOffset 1 + pieceField .unnamed) ≡ 0
   pub third : byteAt s (pieceOffset 2 + pieceField .unnamed) ≡ 0
@@ -103,14 +103,14 @@ unfolding entryForm
 form-bytes s h =
     let inputs = byteAt s (entryOffset .inputs) in
     let pair = zeroAt 2 s (entryOffset .unnamedPair) in
-    let word = zeroAt 4 s (entryOffset .unnamedWord) in
+    let quad = zeroAt 4 s (entryOffset .unnamedQuad) in
     let z : ℕ → Bool = λ i. pieceZero s (pieceOffset i) in
     let at : ℕ → ℕ = λ i. byteAt s (pieceOffset i + pieceField .unnamed) in
-    let p = each (ltb inputs 4) (pair ∷ word ∷ z 0 ∷ z 1 ∷ z 2 ∷ z 3 ∷ []) h in
+    let p = each (ltb inputs 4) (pair ∷ quad ∷ z 0 ∷ z 1 ∷ z 2 ∷ z 3 ∷ []) h in
     record {
       inputs = ltb-true inputs 4 (p .0);
       pair = p .1 .0;
-      word = p .1 .1 .0;
+      quad = p .1 .1 .0;
       first = eqb-true (at 0) 0 (p .1 .1 .1 .0);
       second = eqb-true (at 1) 0 (p .1 .1 .1 .1 .0);
       third = eqb-true (at 2) 0 (p .1 .1 .1 .1 .1 .0);
@@ -148,7 +148,7 @@ encode-decode s l b h =
     (byte-back (entryOffset .resetReply) _ s _ (omega arith) refl
     (field-back 2 (entryOffset .abortCode) s _ b (omega arith)
     (zero-back 2 (entryOffset .unnamedPair) s _ (f .pair) (omega arith)
-    (zero-back 4 (entryOffset .unnamedWord) s _ (f .word) (omega arith)
+    (zero-back 4 (entryOffset .unnamedQuad) s _ (f .quad) (omega arith)
     (field-back 4 (entryOffset .limit) s _ b (omega arith)
     (field-back 4 (entryOffset .timeout) s _ b (omega arith)
     (field-back 4 (entryOffset .clock) s _ b (omega arith)

@@ -43,7 +43,7 @@ pub record FormBytes (s : List ℕ) : Type 0 where
   pub flags : byteAt s (recordOffset .flags) < 16
   pub request : byteAt s (recordOffset .request) ≤ 1
   pub unnamed : byteAt s (recordOffset .unnamed) ≡ 0
-  pub word : zeroAt 4 s (recordOffset .unnamedWord) ≡ true
+  pub quad : zeroAt 4 s (recordOffset .unnamedQuad) ≡ true
   pub pair : zeroAt 2 s (recordOffset .unnamedPair) ≡ true
 
 pub form-bytes : (s : List ℕ) → recordForm s ≡ true → FormBytes s
@@ -52,14 +52,14 @@ form-bytes s h =
     let flags = byteAt s (recordOffset .flags) in
     let request = byteAt s (recordOffset .request) in
     let unnamed = byteAt s (recordOffset .unnamed) in
-    let word = zeroAt 4 s (recordOffset .unnamedWord) in
+    let quad = zeroAt 4 s (recordOffset .unnamedQuad) in
     let pair = zeroAt 2 s (recordOffset .unnamedPair) in
-    let p = each (ltb flags 16) (leb request 1 ∷ eqb unnamed 0 ∷ word ∷ pair ∷ []) h in
+    let p = each (ltb flags 16) (leb request 1 ∷ eqb unnamed 0 ∷ quad ∷ pair ∷ []) h in
     record {
       flags = ltb-true flags 16 (p .0);
       request = leb-true request 1 (p .1 .0);
       unnamed = eqb-true unnamed 0 (p .1 .1 .0);
-      word = p .1 .1 .1 .0;
+      quad = p .1 .1 .1 .0;
       pair = p .1 .1 .1 .1;
     }
 
@@ -71,7 +71,7 @@ encode-decode s l b h =
     (byte-back (recordOffset .flags) _ s _ (omega arith) (flags-back (byteAt s (recordOffset .flags)) (f .flags))
     (byte-back (recordOffset .request) _ s _ (omega arith) (bit-back (byteAt s (recordOffset .request)) (f .request))
     (byte-back (recordOffset .unnamed) _ s _ (omega arith) (sym (f .unnamed))
-    (zero-back 4 (recordOffset .unnamedWord) s _ (f .word) (omega arith)
+    (zero-back 4 (recordOffset .unnamedQuad) s _ (f .quad) (omega arith)
     (field-back 2 (recordOffset .code) s _ b (omega arith)
     (zero-back 2 (recordOffset .unnamedPair) s _ (f .pair) (omega arith)
     (field-back 4 (recordOffset .limit) s _ b (omega arith)

@@ -55,7 +55,7 @@ pub record EntryOffsets : Type 0 where
   pub resetReply : ℕ
   pub abortCode : ℕ
   pub unnamedPair : ℕ
-  pub unnamedWord : ℕ
+  pub unnamedQuad : ℕ
   pub limit : ℕ
   pub timeout : ℕ
   pub clock : ℕ
@@ -65,7 +65,7 @@ pub record EntryOffsets : Type 0 where
 -- "1 piece count n, 0 to 4; 2 abort reply; 3 reset reply; 4-5 abort error code; ... 12-15 time limit; 16-19 time-out; 20-23 clock at the call; from 24, four pieces of 8" "job in 56-63, bytes 8-11 zero"
 abbrev pub entryOffset : EntryOffsets
 entryOffset =
-    record { inputs = 0; count = 1; abortReply = 2; resetReply = 3; abortCode = 4; unnamedPair = 6; unnamedWord = 8; limit = 12; timeout = 16; clock = 20; pieces = 24; job = 56 }
+    record { inputs = 0; count = 1; abortReply = 2; resetReply = 3; abortCode = 4; unnamedPair = 6; unnamedQuad = 8; limit = 12; timeout = 16; clock = 20; pieces = 24; job = 56 }
 
 -- the bytes before the pieces; piece i, from 0; the end of the four
 abbrev pub headLength : ℕ
@@ -107,7 +107,7 @@ decodeEntry s =
 -- "others zero"; the unnamed bytes are zero, before the pieces
 abbrev pub headForm : List ℕ → Bool
 headForm s =
-    ltb (byteAt s (entryOffset .inputs)) 4 && zeroAt 2 s (entryOffset .unnamedPair) && zeroAt 4 s (entryOffset .unnamedWord)
+    ltb (byteAt s (entryOffset .inputs)) 4 && zeroAt 2 s (entryOffset .unnamedPair) && zeroAt 4 s (entryOffset .unnamedQuad)
 
 -- and in each piece
 unfoldable pub entryForm : List ℕ → Bool

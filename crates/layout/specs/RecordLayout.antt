@@ -28,7 +28,7 @@ pub record RecordOffsets : Type 0 where
   pub flags : ℕ
   pub request : ℕ
   pub unnamed : ℕ
-  pub unnamedWord : ℕ
+  pub unnamedQuad : ℕ
   pub code : ℕ
   pub unnamedPair : ℕ
   pub limit : ℕ
@@ -40,7 +40,7 @@ pub record RecordOffsets : Type 0 where
 -- "0 step ...; 1 flags ...; 2 reset request, 0 or 1; ... 8-9 error code; 12-15 time limit and 16-19 time-out taken at the start; 20-23 last clock reading; 24-31 elapsed." "job in 32-39, bytes 4-7 zero"
 abbrev pub recordOffset : RecordOffsets
 recordOffset =
-    record { step = 0; flags = 1; request = 2; unnamed = 3; unnamedWord = 4; code = 8; unnamedPair = 10; limit = 12; timeout = 16; last = 20; elapsed = 24; job = 32 }
+    record { step = 0; flags = 1; request = 2; unnamed = 3; unnamedQuad = 4; code = 8; unnamedPair = 10; limit = 12; timeout = 16; last = 20; elapsed = 24; job = 32 }
 
 unfoldable pub encodeRecord : Record → List ℕ
 encodeRecord r =
@@ -73,7 +73,7 @@ recordForm s =
     ltb (byteAt s (recordOffset .flags)) 16
     && leb (byteAt s (recordOffset .request)) 1
     && eqb (byteAt s (recordOffset .unnamed)) 0
-    && zeroAt 4 s (recordOffset .unnamedWord)
+    && zeroAt 4 s (recordOffset .unnamedQuad)
     && zeroAt 2 s (recordOffset .unnamedPair)
 
 -- check 21 of one record of a kind

@@ -37,7 +37,7 @@ const ABORT_CODE_OFFSET: usize = 4;
 
 const UNNAMED_PAIR_OFFSET: usize = 6;
 
-const UNNAMED_WORD_OFFSET: usize = 8;
+const UNNAMED_QUAD_OFFSET: usize = 8;
 
 const LIMIT_OFFSET: usize = 12;
 
@@ -113,7 +113,7 @@ fn head_fits(s: &[u8]) -> bool
 {
     let form = (s[INPUTS_OFFSET] < 4)
         & (words::u16_at(s, UNNAMED_PAIR_OFFSET) == 0)
-        & (words::u32_at(s, UNNAMED_WORD_OFFSET) == 0);
+        & (words::u32_at(s, UNNAMED_QUAD_OFFSET) == 0);
     let replies = (s[COUNT_OFFSET] <= Entry::MOST_PIECES)
         & (s[ABORT_REPLY_OFFSET] <= Entry::ERROR)
         & (s[RESET_REPLY_OFFSET] <= Entry::COMPLETE);

@@ -20,7 +20,7 @@ pub const FLAGS_OFFSET: usize = 1;
 const REQUEST_OFFSET: usize = 2;
 
 // Four unnamed bytes, and two; one more stands after the request.
-const UNNAMED_WORD_OFFSET: usize = 4;
+const UNNAMED_QUAD_OFFSET: usize = 4;
 
 const CODE_OFFSET: usize = 8;
 
@@ -142,7 +142,7 @@ fn record_form(s: &[u8]) -> bool
 {
     (s[FLAGS_OFFSET] < 16)
         & (words::u16_at(s, REQUEST_OFFSET) <= 1)
-        & (words::u32_at(s, UNNAMED_WORD_OFFSET) == 0)
+        & (words::u32_at(s, UNNAMED_QUAD_OFFSET) == 0)
         & (words::u16_at(s, UNNAMED_PAIR_OFFSET) == 0)
 }
 

@@ -1,4 +1,4 @@
--- Document 01: "Values are little-endian". Numbers in bytes, for every width.
+-- Document 01: "Values are little-endian". Numbers in bytes, for every width, and bytes that are all zero.
 use Prim.Native.Nat.{ℕ, zero, suc, _+_, _*_, _/_, _%_, _<_}
 use mathlib.Core.Bool.{Bool, true, _&&_}
 use mathlib.Core.List.{List, [], _∷_}

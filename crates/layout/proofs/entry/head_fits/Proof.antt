@@ -42,14 +42,14 @@ returns : tie.Need-returns
 unfolding decodeEntry
 returns c =
     let coded = c .before in
-    let word = coded .before .before .before .before .before in
-    let pair = word .before in
+    let quad = coded .before .before .before .before .before in
+    let pair = quad .before in
     let s = pair .before .before .before .args .s .now in
     let abortReply = byteAt s (entryOffset .abortReply) in
     let zeroPair = ap (λ (n : ℕ). eqb n 0) (pair .u16-at .ensures) ∙ sym (zero-at 2 (entryOffset .unnamedPair) s) in
-    let zeroWord = ap (λ (n : ℕ). eqb n 0) (word .u32-at .ensures) ∙ sym (zero-at 4 (entryOffset .unnamedWord) s) in
+    let zeroQuad = ap (λ (n : ℕ). eqb n 0) (quad .u32-at .ensures) ∙ sym (zero-at 4 (entryOffset .unnamedQuad) s) in
     let code = c .code-fits .ensures ∙ ap (codeFits abortReply) (coded .u16-at2 .ensures) in
-    λ i. ltb (byteAt s (entryOffset .inputs)) 4 && zeroPair i && zeroWord i
+    λ i. ltb (byteAt s (entryOffset .inputs)) 4 && zeroPair i && zeroQuad i
     && (leb (byteAt s (entryOffset .count)) mostPieces && leb abortReply ErrorReply && leb (byteAt s (entryOffset .resetReply)) Complete && code i)
 
 pub head-fits-spec : {M : Type 1} → statement M
