@@ -9,7 +9,7 @@ pub mod CallLoop
 pub mod SoundLaws
 pub mod EventLaws
 pub mod TimeLaws
-pub mod Locality
+pub mod IdleLaws
 pub mod BlockInvariant
 pub mod WorkedExamples
 pub mod CallExamples

@@ -10,3 +10,4 @@ pub mod ended; // Done, Error and Aborted
 pub mod aborting;
 pub mod resetting;
 pub mod call; // passes until one stops
+pub mod idle; // which blocks need no call

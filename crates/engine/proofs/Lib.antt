@@ -3,6 +3,7 @@ pub mod ClearLaws
 pub mod GridLaws
 pub mod ServedLaws
 pub mod ServeLaws
+pub mod IdleLaws
 pub mod ServingLaws
 pub mod AnswerLaws
 pub mod RefusalLaws

@@ -1,43 +1,28 @@
--- One block's step: step, flags and inputs by their bytes, the events of a call appended, the four parts of `served` put together, and an idle
--- block, which leaves all but its report entry as it was. For the proofs of
--- `input_of`, `inputs_at`, `is_idle`, `append_events`, `write_call` and `serve`.
+-- One block's step: flags and inputs by their bytes, the events of a call appended, and what a call leaves put together. For the proofs of
+-- `input_of`, `is_idle`, `inputs_at`, `append_events`, `write_call` and `serve`.
 use Prim.Native.Nat.{ℕ, zero, suc, _+_, _*_, _≤_}
 use native.Mathlib.Numerals.{add-one}
 use native.Mathlib.Omega.{arith}
 use mathlib.Core.List.{List, [], _∷_, _++_, append-nil}
-use mathlib.Core.Bool.{true, false, not}
 use mathlib.Core.Path.{_≡_, refl, ap, sym, _∙_}
-use lib.Dec.{eqb, lit<}
-use lib.ListN.{length, take, replicate}
+use lib.Dec.{lit<}
+use lib.ListN.{length, take}
 use Rattle.table.specs.declared.blocks.BlockConfig.{BlockConfig}
-use borrow.Author.Tests.{not-true, eqb-true}
-use Rattle.layout.specs.Buffer.{recordLength, entryLength, reportLength, eventLength, byteAt, part, put}
+use Rattle.layout.specs.Buffer.{recordLength, entryLength, reportLength, eventLength, byteAt, put}
 use Rattle.layout.specs.RecordLayout.{recordOffset, decodeFlags, encodeRecord, decodeRecord}
 use Rattle.layout.specs.EntryLayout.{entryOffset, decodeEntry, decodeInputs}
 use Rattle.layout.specs.ReportLayout.{encodeReport}
 use Rattle.layout.specs.EventLayout.{encodeEvent, encodeEvents}
-use Rattle.layout.proofs.BufferLaws.{put-own, put-nothing, put-next, part-byte, part-length}
-use Rattle.membership.proofs.Logic.{and-left, and-right}
-use Rattle.layout.proofs.RecordLaws.{encode-fresh, decode-fresh}
-use Rattle.layout.proofs.CheckLaws.{dormant-zeros}
+use Rattle.layout.proofs.BufferLaws.{put-nothing, put-next, part-byte}
 use Rattle.layout.proofs.EventLaws.{event-length}
-use Rattle.block.specs.Record.{Dormant, freshRecord}
-use Rattle.block.specs.Call.{Outcome, unchanged, callOf}
-use Rattle.block.proofs.Locality.{idle-call}
+use Rattle.block.specs.Call.{Outcome}
 use Rattle.block.specs.CallResult.{outcomeOf}
 use Rattle.block.specs.declared.call.CallResult.{CallResult}
 use Rattle.block.specs.declared.event.Event.{Event}
-use Rattle.block.specs.declared.entry.Inputs.{Inputs}
-use Rattle.block.specs.declared.record.Record.{Record}
-use Rattle.engine.specs.Inputs.{flagsIn, inputsOf}
-use Rattle.engine.specs.Callable.{Callable}
-use Rattle.engine.specs.Serve.{Buffers, recordIn, entryIn, idle, callIn, written, served}
+use Rattle.engine.specs.Inputs.{flagsIn}
+use Rattle.engine.specs.Serve.{Buffers, entryIn, callIn, written, served}
 
--- the step and the flags of a block's record and the inputs of its entry, each by its byte
-pub step-at : (state : List ℕ) (i : ℕ) → byteAt state (recordLength * i + recordOffset .step) ≡ recordIn state i .step
-unfolding decodeRecord
-step-at state i = part-byte recordLength i (recordOffset .step) state (lit< tt)
-
+-- the flags of a block's record and the inputs of its entry, each by its byte
 pub flags-at : (state : List ℕ) (i : ℕ) → decodeFlags (byteAt state (recordLength * i + recordOffset .flags)) ≡ flagsIn state i
 unfolding decodeRecord
 flags-at state i = ap decodeFlags (part-byte recordLength i (recordOffset .flags) state (lit< tt))
@@ -95,36 +80,8 @@ written-is i state report journal events a newState newReport newJournal count e
     let f : newJournal ≡ put (eventLength * events) (encodeEvents (suc i) (outcomeOf a .events)) journal = rw add-one at ej in
     λ j. record { state = es j; report = er j; journal = f j; events = ec j }
 
--- a block served: its inputs, its call, and what the call leaves
-module _ (b : BlockConfig) (i : ℕ) (frame state report journal : List ℕ) (events : ℕ) (inputs : Inputs)
-    (resolved : inputs ≡ inputsOf b (flagsIn state) (entryIn frame i .inputs)) (a : CallResult) where
-  abbrev before : Buffers
-  before = record { state = state; report = report; journal = journal; events = events }
-
-  pub served-is : (after : Buffers) → outcomeOf a ≡ callOf (b .kind) inputs (entryIn frame i) (recordIn state i) → after ≡ written i (outcomeOf a) before
-      → after ≡ served b i frame before
-  unfolding served callIn
-  served-is after called w =
-      w ∙ ap (λ (o : Outcome). written i o before) (called ∙ ap (λ (x : Inputs). callOf (b .kind) x (entryIn frame i) (recordIn state i)) resolved)
-
-  -- an idle block: its record is all zero and stays so, its report entry is that of a call that changes nothing, and it has no events
-  pub idle-is : Callable (b .kind) i frame state → idle inputs (recordIn state i) ≡ true → outcomeOf a ≡ unchanged freshRecord
-      → (newReport : List ℕ) → newReport ≡ put (reportLength * i) (encodeReport (outcomeOf a)) report
-      → _≡_ {A = Buffers} (record { state = state; report = newReport; journal = journal; events = events }) (served b i frame before)
-  unfolding decodeRecord encodeEvents
-  idle-is c idles ea newReport er =
-      let own = part recordLength i state in
-      let step = byteAt own (recordOffset .step) in
-      let dormant : step ≡ Dormant = eqb-true step Dormant (and-left (eqb step Dormant) (not (inputs .start)) idles) in
-      let off : inputs .start ≡ false = not-true (inputs .start) (and-right (eqb step Dormant) (not (inputs .start)) idles) in
-      let full : length own ≡ recordLength = part-length recordLength i state (c .own) in
-      let zeros : own ≡ replicate recordLength 0 = dormant-zeros own (omega arith) (b .kind) dormant full (c .isSound) in
-      let fresh : recordIn state i ≡ freshRecord = ap decodeRecord zeros ∙ decode-fresh in
-      let called = idle-call (b .kind) inputs (entryIn frame i) (recordIn state i) dormant off ∙ ap unchanged fresh ∙ sym ea in
-      let kept : put (recordLength * i) (encodeRecord (a .next)) state ≡ state =
-      ap (λ (r : Record). put (recordLength * i) (encodeRecord r) state) (ap (λ (o : Outcome). o .next) ea)
-      ∙ ap (λ (v : List ℕ). put (recordLength * i) v state) (encode-fresh ∙ sym zeros) ∙ put-own (recordLength * i) recordLength state (c .own) in
-      let none : outcomeOf a .events ≡ [] = ap (λ (o : Outcome). o .events) ea in
-      served-is _ (sym called)
-      (written-is i state report journal events a state newReport journal events (sym kept) er
-      (rw none (sym (put-nothing (eventLength * events) journal))) (rw none (omega arith)))
+-- a block served: its call, and what the call leaves
+pub served-is : (b : BlockConfig) (i : ℕ) (frame : List ℕ) (before after : Buffers) (a : CallResult) → outcomeOf a ≡ callIn b i frame (before .state)
+    → after ≡ written i (outcomeOf a) before → after ≡ served b i frame before
+unfolding served
+served-is b i frame before after a called w = w ∙ ap (λ (o : Outcome). written i o before) called

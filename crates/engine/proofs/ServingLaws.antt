@@ -3,7 +3,7 @@ use Prim.Native.Nat.{ℕ, zero, suc, _+_, _*_, _≤_, _<_}
 use native.Mathlib.Numerals.{add-one}
 use native.Mathlib.Omega.{arith}
 use mathlib.Core.Bool.{true, _&&_}
-use mathlib.Core.List.{List, [], _∷_}
+use mathlib.Core.List.{List}
 use mathlib.Core.Path.{_≡_, refl, ap, _∙_}
 use lib.Dec.{leb}
 use lib.ListN.{length}
@@ -12,9 +12,8 @@ use Rattle.membership.proofs.Logic.{and-left}
 use Rattle.table.specs.Check.{checkOf}
 use Rattle.table.specs.Blocks.{Block, blocksOf, configAt}
 use Rattle.table.specs.declared.check.Checked.the-variants.{Blocks}
-use Rattle.table.specs.declared.blocks.BlockConfig.{BlockConfig}
 use Rattle.table.proofs.AcceptedLaws.{accepted-blocks, accepted-few, accepted-start, accepted-abort}
-use Rattle.layout.specs.Buffer.{recordLength, entryLength, reportLength, eventLength, part, put}
+use Rattle.layout.specs.Buffer.{recordLength, entryLength, eventLength, part}
 use Rattle.layout.specs.EventLayout.{encodeEvents}
 use Rattle.layout.proofs.BufferLaws.{put-length}
 use Rattle.layout.proofs.EntryLaws.{entry-fits}
@@ -86,35 +85,33 @@ module _ (blocks : List Block) (told : Told) (state₀ report₀ journal₀ : Li
   serving-record s =
       ap (λ (b : Buffers). part recordLength i (b .state)) (h .whole) ∙ state-later blocks told state₀ report₀ journal₀ (s .sized) i i (h .within) (omega arith)
 
-  -- `b` is what a call reads of the next block
-  module _ (b : BlockConfig) (eb : b ≡ configAt blocks i) where
-    pub serving-on : (newState newReport newJournal : List ℕ) (count : ℕ) → i < length blocks
-        → _≡_ {A = Buffers} (record { state = newState; report = newReport; journal = newJournal; events = count })
-        (served b i (told .frame) (record { state = state; report = report; journal = journal; events = events }))
-        → Serving blocks told state₀ report₀ journal₀ (i + 1) newState newReport newJournal count
-    unfolding servedTo
-    serving-on newState newReport newJournal count l e =
-        rw add-one (record { within = l; whole = rw eb at e ∙ ap (served (configAt blocks i) i (told .frame)) (h .whole) })
+  pub serving-on : (newState newReport newJournal : List ℕ) (count : ℕ) → i < length blocks
+      → _≡_ {A = Buffers} (record { state = newState; report = newReport; journal = newJournal; events = count })
+      (served (configAt blocks i) i (told .frame) (record { state = state; report = report; journal = journal; events = events }))
+      → Serving blocks told state₀ report₀ journal₀ (i + 1) newState newReport newJournal count
+  unfolding servedTo
+  serving-on newState newReport newJournal count l e =
+      rw add-one (record { within = l; whole = e ∙ ap (served (configAt blocks i) i (told .frame)) (h .whole) })
 
-    -- the next block of an accepted table can be called
-    pub serving-callable : (image : List ℕ) (n : ℕ) → checkOf image ≡ Blocks n → blocks ≡ blocksOf image
-        → StateFits blocks state₀ → GivenFits blocks told report₀ journal₀ → i < n
-        → (Callable (b .kind) i (told .frame) state × Reached b state) × HasRoom i events report journal
-    serving-callable image n ok from s g l =
-        let z = serving-sized s g in
-        let c : length blocks ≡ n = ap length from ∙ accepted-blocks image n ok in (
-          (
-            record {
-              few = omega (arith, accepted-few image n ok);
-              own = omega (arith, z .0, s .sized);
-              entry = omega (arith, g .frameSized);
-              isSound = rw (eb, serving-record s) (s .sound i (omega arith));
-              pieces = count-few (entryIn (told .frame) i) (entry-fits (part entryLength i (told .frame)) (g .form i (omega arith)));
-            },
-            record {
-              start = rw (eb, from) (omega (arith, z .0, s .sized, accepted-start image n ok i l .within));
-              abort = rw (eb, from) (omega (arith, z .0, s .sized, accepted-abort image n ok i l .within));
-            },
-          ),
-          record { reported = omega (arith, z .1, g .reportSized); posted = omega (arith, z .2, z .3, g .room) },
-        )
+  -- the next block of an accepted table can be called
+  pub serving-callable : (image : List ℕ) (n : ℕ) → checkOf image ≡ Blocks n → blocks ≡ blocksOf image
+      → StateFits blocks state₀ → GivenFits blocks told report₀ journal₀ → i < n
+      → (Callable (configAt blocks i .kind) i (told .frame) state × Reached (configAt blocks i) state) × HasRoom i events report journal
+  serving-callable image n ok from s g l =
+      let z = serving-sized s g in
+      let c : length blocks ≡ n = ap length from ∙ accepted-blocks image n ok in (
+        (
+          record {
+            few = omega (arith, accepted-few image n ok);
+            own = omega (arith, z .0, s .sized);
+            entry = omega (arith, g .frameSized);
+            isSound = rw (serving-record s) (s .sound i (omega arith));
+            pieces = count-few (entryIn (told .frame) i) (entry-fits (part entryLength i (told .frame)) (g .form i (omega arith)));
+          },
+          record {
+            start = rw from (omega (arith, z .0, s .sized, accepted-start image n ok i l .within));
+            abort = rw from (omega (arith, z .0, s .sized, accepted-abort image n ok i l .within));
+          },
+        ),
+        record { reported = omega (arith, z .1, g .reportSized); posted = omega (arith, z .2, z .3, g .room) },
+      )

@@ -3,6 +3,7 @@ pub mod Verify
 pub mod Inputs
 pub mod Serve
 pub mod Callable
+pub mod Idle
 pub mod Fresh
 pub mod Scan
 pub mod ScanAccepted

@@ -1,8 +1,6 @@
 -- Document 01, "An accepted scan calls each block once, in chain order": one block's step over the lent buffers.
 use Prim.Native.Nat.{ℕ, zero, suc, _+_, _*_}
-use mathlib.Core.Bool.{Bool, not, _&&_}
 use mathlib.Core.List.{List}
-use lib.Dec.{eqb}
 use lib.ListN.{length}
 use Rattle.table.specs.Blocks.{Block, configAt}
 use Rattle.layout.specs.Buffer.{recordLength, entryLength, reportLength, eventLength, part, put}
@@ -11,10 +9,8 @@ use Rattle.layout.specs.EntryLayout.{decodeEntry}
 use Rattle.layout.specs.ReportLayout.{encodeReport}
 use Rattle.layout.specs.EventLayout.{encodeEvents}
 use Rattle.table.specs.declared.blocks.BlockConfig.{BlockConfig}
-use Rattle.block.specs.Record.{Dormant}
 use Rattle.block.specs.Call.{Outcome, callOf}
 use Rattle.block.specs.declared.record.Record.{Record}
-use Rattle.block.specs.declared.entry.Inputs.{Inputs}
 use Rattle.block.specs.declared.entry.Entry.{Entry}
 use Rattle.engine.specs.Told.{Told}
 use Rattle.engine.specs.Inputs.{flagsIn, inputsOf}
@@ -31,10 +27,6 @@ recordIn state i = decodeRecord (part recordLength i state)
 
 abbrev pub entryIn : List ℕ → ℕ → Entry
 entryIn frame i = decodeEntry (part entryLength i frame)
-
--- whether a block is idle: Dormant, and its start false
-abbrev pub idle : Inputs → Record → Bool
-idle i r = eqb (r .step) Dormant && not (i .start)
 
 -- the call of the block at index i: "A wired input reads that flag as it stands when the block is called"
 unfoldable pub callIn : BlockConfig → ℕ → List ℕ → List ℕ → Outcome

@@ -27,7 +27,7 @@ fn flag_of(n: u8, f: Flags) -> bool
 }
 
 // One input: the frame's bit, or a flag as it stands in the state.
-fn input_of(w: Wire, state: &[u8], bit: bool) -> bool
+pub fn input_of(w: Wire, state: &[u8], bit: bool) -> bool
     requires { ⌜ recordLength * w .position ≤ length (now state) ⌝ }
     ensures { λ r. ⌜ r ≡ inputOf w (flagsIn (now (state .entry))) bit ⌝ }
 {

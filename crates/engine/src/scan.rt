@@ -40,8 +40,18 @@ fn serve_all(
     let mut events = 0;
     let mut i = 0;
     while i < count {
-        let b = table::blocks::config_at(image, slots, positions, count, i);
-        events = serve(b, i, frame, state, report, journal, events);
+        events = serve(
+            image,
+            slots,
+            positions,
+            count,
+            i,
+            frame,
+            state,
+            report,
+            journal,
+            events,
+        );
         i += 1;
     }
     events

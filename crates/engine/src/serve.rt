@@ -1,26 +1,28 @@
 // One block's step over the lent buffers.
+use crate::idle::is_idle;
+use crate::idle::serve_idle;
 use crate::inputs::wired;
 use block::call::CallResult;
 use block::entry::Inputs;
-use block::record::Record;
+use image::MOST_SLOTS;
 use layout::entry::ENTRY_BYTES;
 use layout::entry::INPUTS_OFFSET;
 use layout::event::EVENT_BYTES;
 use layout::record::RECORD_BYTES;
-use layout::record::STEP_OFFSET;
 use layout::report::REPORT_BYTES;
 use table::blocks::BlockConfig;
 ghost use mathlib.Core.Path.{_≡_};
 ghost use Prim.Native.Nat.{_+_, _*_, _≤_, _<_};
 ghost use lib.ListN.{length};
 ghost use Rattle.image.specs.Image.{mostSlots};
-ghost use Rattle.block.specs.Call.{callOf};
+ghost use Rattle.table.specs.Check.{Accepted};
+ghost use Rattle.table.specs.Blocks.{blocksOf, configAt};
 ghost use Rattle.block.specs.CallResult.{outcomeOf};
 ghost use Rattle.layout.specs.Buffer.{recordLength, entryLength, reportLength, eventLength, put};
 ghost use Rattle.layout.specs.ReportLayout.{encodeReport};
 ghost use Rattle.layout.specs.EventLayout.{encodeEvents};
 ghost use Rattle.engine.specs.Inputs.{flagsIn, inputsOf};
-ghost use Rattle.engine.specs.Serve.{recordIn, entryIn, idle, written, served};
+ghost use Rattle.engine.specs.Serve.{entryIn, callIn, written, served};
 ghost use Rattle.engine.specs.Callable.{Callable, Reached, HasRoom};
 
 // The inputs of the block at index i: its wires, else the bits of its entry.
@@ -34,26 +36,19 @@ fn inputs_at(b: BlockConfig, i: usize, frame: &[u8], state: &[u8]) -> Inputs
     wired(start, abort, state, bits)
 }
 
-// Whether the block at index i is Dormant and its start false.
-fn is_idle(inputs: Inputs, i: usize, state: &[u8]) -> bool
-    requires { ⌜ recordLength * i < length (now state) ⌝ }
-    ensures { λ r. ⌜ r ≡ idle inputs (recordIn (now (state .entry)) i) ⌝ }
+// The call of the block at index i: its inputs, its record as it stands in the state, and its entry.
+fn call_at(b: BlockConfig, i: usize, frame: &[u8], state: &[u8]) -> CallResult
+    requires { ⌜ Callable (b .kind) i (now frame) (now state) × Reached b (now state) ⌝ }
+    ensures { λ r. ⌜ outcomeOf r ≡ callIn b i (now (frame .entry)) (now (state .entry)) ⌝ }
 {
-    (state[RECORD_BYTES * i + STEP_OFFSET] == Record::DORMANT) & !inputs.start
-}
-
-// The call of the block at index i: its record as it stands in the state, and its entry.
-fn call_at(kind: u8, inputs: Inputs, i: usize, frame: &[u8], state: &[u8]) -> CallResult
-    requires { ⌜ Callable kind i (now frame) (now state) ⌝ }
-    ensures { λ r. ⌜ outcomeOf r ≡ callOf kind inputs (entryIn (now (frame .entry)) i) (recordIn (now (state .entry)) i) ⌝ }
-{
+    let inputs = inputs_at(b, i, frame, state);
     let at = RECORD_BYTES * i;
     let end = at + RECORD_BYTES;
     let r = layout::record::decode_record(&state[at..end]);
     let first = ENTRY_BYTES * i;
     let last = first + ENTRY_BYTES;
     let e = layout::entry::decode_entry(&frame[first..last]);
-    block::call::call(kind, inputs, e, r)
+    block::call::call(b.kind, inputs, e, r)
 }
 
 // The block's own part of the report becomes the entry of a call.
@@ -108,9 +103,12 @@ fn write_call(
     append_events(journal, events, (i + 1) as u8, a)
 }
 
-// The block at index i is served; the number of events now in the journal. An idle block's record is only read, and stays in its place.
+// The block at index i is served; the number of events now in the journal. An idle block goes to `serve_idle`, which only reads the state; any other is called.
 pub fn serve(
-    b: BlockConfig,
+    image: &[u8],
+    slots: &[u8; MOST_SLOTS],
+    positions: &[u8; MOST_SLOTS + 1],
+    count: usize,
     i: usize,
     frame: &[u8],
     state: &mut [u8],
@@ -118,17 +116,19 @@ pub fn serve(
     journal: &mut [u8],
     events: usize,
 ) -> usize
-    requires { ⌜ Callable (b .kind) i (now frame) (now state) × Reached b (now state) ⌝ }
+    requires { ⌜ Accepted (now image) count (now slots) (now positions) × (i < count) ⌝ }
+    requires { ⌜ Callable (configAt (blocksOf (now image)) i .kind) i (now frame) (now state) × Reached (configAt (blocksOf (now image)) i) (now state) ⌝ }
     requires { ⌜ HasRoom i events (now report) (now journal) ⌝ }
     ensures { λ r. ⌜ record { state = now (state .exit); report = now (report .exit); journal = now (journal .exit); events = r }
-        ≡ served b i (now (frame .entry))
+        ≡ served (configAt (blocksOf (now (image .entry))) i) i (now (frame .entry))
         (record { state = now (state .entry); report = now (report .entry); journal = now (journal .entry); events = events }) ⌝ }
 {
-    let inputs = inputs_at(b, i, frame, &state[..]);
-    if is_idle(inputs, i, &state[..]) {
-        report_call(report, i, CallResult::idle());
+    let start = table::blocks::start_wire(image, slots, positions, count, i);
+    if is_idle(start, i, frame, &state[..]) {
+        serve_idle(i, &state[..], &mut report[REPORT_BYTES * i..]);
         return events;
     }
-    let a = call_at(b.kind, inputs, i, frame, &state[..]);
+    let b = table::blocks::config_at(image, slots, positions, count, i);
+    let a = call_at(b, i, frame, &state[..]);
     write_call(i, a, state, report, journal, events)
 }

@@ -9,10 +9,10 @@ use native.Mathlib.Omega.{arith}
 use native.Mathlib.Nat.{add-zero, add-assoc, mul-suc, mul-add, mul-le-mul-left}
 use native.Mathlib.Numerals.{add-one}
 use lib.Dec.{ltb}
-use lib.ListN.{length, getD, set, take, drop, length-drop, length-append, drop-of-length-le, take-append-drop, replicate, length-replicate, replicate-append-replicate}
+use lib.ListN.{length, set, take, drop, length-drop, length-append, drop-of-length-le, take-append-drop, replicate, length-replicate, replicate-append-replicate}
 use lib.Seq.{take-all, drop-drop, take-append-le, take-append-add, drop-append-le, drop-append-add, length-take-le, take-at, drop-at, getD-take, getD-drop, set-split}
 use borrow.Author.Tests.{ltb-true, ltb-false}
-use borrow.Rule.Slice.PartMut.{putMid}
+use borrow.Rule.Slice.PartMut.{midOf, putMid}
 use Rattle.membership.proofs.Logic.{by-test}
 use Rattle.words.specs.Word.{Bytes}
 use Rattle.layout.specs.Buffer.{byteAt, part, put}
@@ -127,13 +127,16 @@ part-zeros size i n h =
     ∙ ap (take size) (drop-at before (own ++ after) (size * i) (length-replicate (size * i) 0))
     ∙ take-at own after size (length-replicate size 0)
 
--- `&mut xs[a..]` was lent, and its first n bytes were written
+-- `&mut xs[a..]`: what is lent, what is left where it became ys, and where its first n bytes were written
+pub lent-part : (a : ℕ) (xs : List ℕ) → midOf a (length xs - a) xs ≡ drop a xs
+lent-part a xs = take-all (length xs - a) (drop a xs) (simp length-drop (omega arith))
+
+pub lent-back : (a : ℕ) (xs ys : List ℕ) → putMid a (length xs - a) xs ys ≡ take a xs ++ ys
+lent-back a xs ys = rw (drop-of-length-le (drop a xs) {i = length xs - a} (simp length-drop (omega arith)), append-nil)
+
 pub put-front : (a n : ℕ) (xs v ys : List ℕ) → length v ≡ n → ys ≡ v ++ drop n (take (length xs - a) (drop a xs))
     → putMid a (length xs - a) xs ys ≡ put a v xs
-put-front a n xs v ys full e =
-    let whole : take (length xs - a) (drop a xs) ≡ drop a xs = take-all (length xs - a) (drop a xs) (simp length-drop (omega arith)) in
-    let none : drop (length xs - a) (drop a xs) ≡ [] = drop-of-length-le (drop a xs) {i = length xs - a} (simp length-drop (omega arith)) in
-    rw (e, whole, none, append-nil, drop-drop, full)
+put-front a n xs v ys full e = lent-back a xs ys ∙ rw (e, lent-part a xs, drop-drop, full)
 
 -- a buffer filled from the front to place p, and n bytes more put there
 pub fill-whole : (p n : ℕ) (done chunk buf₀ buf ys : List ℕ) → length done ≡ p → length chunk ≡ n → buf ≡ done ++ drop p buf₀

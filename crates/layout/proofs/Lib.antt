@@ -6,4 +6,5 @@ pub mod RecordLaws
 pub mod ReportLaws
 pub mod EventLaws
 pub mod EntryLaws
-pub mod CheckLaws
+pub mod RecordCheckLaws
+pub mod EntryCheckLaws

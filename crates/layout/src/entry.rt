@@ -6,12 +6,12 @@ use block::entry::Piece;
 ghost use mathlib.Core.Path.{_≡_};
 ghost use mathlib.Core.Bool.{_&&_};
 ghost use mathlib.Core.List.{_++_};
-ghost use Prim.Native.Nat.{_+_, _≤_};
+ghost use Prim.Native.Nat.{_+_, _*_, _≤_};
 ghost use lib.ListN.{length, take, drop};
-ghost use Rattle.words.specs.Word.{bytes};
-ghost use Rattle.block.specs.Entry.{pieceForm, pieceFits, headFits};
+ghost use Rattle.words.specs.Word.{bytes, zeroAt};
+ghost use Rattle.block.specs.Entry.{mostPieces, codeFits, pieceForm, pieceFits, headFits};
 ghost use Rattle.layout.specs.Buffer.{entryLength, jobWidth, put};
-ghost use Rattle.layout.specs.EntryLayout.{pieceLength, headLength, piecesEnd, headForm, pieceZero};
+ghost use Rattle.layout.specs.EntryLayout.{entryOffset, pieceLength, headLength, piecesEnd, headForm, pieceZero};
 ghost use Rattle.layout.specs.EntryLayout.{inputsByte, decodeInputs, encodePiece, decodePiece, encodePieces, encodeEntry, decodeEntry, entryBytes};
 
 // Bytes of a frame entry, of each of its four pieces, and of what stands before them.
@@ -106,19 +106,39 @@ pub fn decode_entry(s: &[u8]) -> Entry
     }
 }
 
-// What stands before the pieces: the unnamed bytes and bits, then the fields.
+// The abort code and the six unnamed bytes after it. Without an error reply all are zero, and one number.
+fn abort_code_fits(s: &[u8]) -> bool
+    requires { ⌜ entryLength ≤ length (now s) ⌝ }
+    ensures { λ r. ⌜ r
+        ≡ codeFits (decodeEntry (now (s .entry)) .«abort_reply») (decodeEntry (now (s .entry)) .«abort_code»)
+        && zeroAt 2 (now (s .entry)) (entryOffset .unnamedPair) && zeroAt 4 (now (s .entry)) (entryOffset .unnamedQuad) ⌝ }
+{
+    if s[ABORT_REPLY_OFFSET] != Entry::ERROR {
+        return words::u64_at(s, ABORT_CODE_OFFSET) == 0;
+    }
+    block::entry::code_fits(Entry::ERROR, words::u16_at(s, ABORT_CODE_OFFSET))
+        & (words::u16_at(s, UNNAMED_PAIR_OFFSET) == 0)
+        & (words::u32_at(s, UNNAMED_QUAD_OFFSET) == 0)
+}
+
+// What stands before the pieces: the fields of one byte, each with its own return, then the abort code and the unnamed bytes.
 fn head_fits(s: &[u8]) -> bool
     requires { ⌜ entryLength ≤ length (now s) ⌝ }
     ensures { λ r. ⌜ r ≡ headForm (now (s .entry)) && headFits (decodeEntry (now (s .entry))) ⌝ }
 {
-    let form = (s[INPUTS_OFFSET] < 4)
-        & (words::u16_at(s, UNNAMED_PAIR_OFFSET) == 0)
-        & (words::u32_at(s, UNNAMED_QUAD_OFFSET) == 0);
-    let replies = (s[COUNT_OFFSET] <= Entry::MOST_PIECES)
-        & (s[ABORT_REPLY_OFFSET] <= Entry::ERROR)
-        & (s[RESET_REPLY_OFFSET] <= Entry::COMPLETE);
-    let reply = s[ABORT_REPLY_OFFSET];
-    form & (replies & block::entry::code_fits(reply, words::u16_at(s, ABORT_CODE_OFFSET)))
+    if s[INPUTS_OFFSET] >= 4 {
+        return false;
+    }
+    if s[COUNT_OFFSET] > Entry::MOST_PIECES {
+        return false;
+    }
+    if s[ABORT_REPLY_OFFSET] > Entry::ERROR {
+        return false;
+    }
+    if s[RESET_REPLY_OFFSET] > Entry::COMPLETE {
+        return false;
+    }
+    abort_code_fits(s)
 }
 
 // A piece of the count: its reply and the zero byte after it, then its code.
@@ -141,7 +161,18 @@ fn piece_fits(s: &[u8], at: usize, i: u8, count: u8) -> bool
     words::u64_at(s, at) == 0
 }
 
-// Check 31 of one entry: its head, then each piece.
+// All four pieces are zero.
+fn pieces_zero(s: &[u8]) -> bool
+    requires { ⌜ entryLength ≤ length (now s) ⌝ }
+    ensures { λ r. ⌜ r ≡ zeroAt (pieceLength * mostPieces) (now (s .entry)) headLength ⌝ }
+{
+    (words::u64_at(s, FIRST_PIECE) == 0)
+        & (words::u64_at(s, SECOND_PIECE) == 0)
+        & (words::u64_at(s, THIRD_PIECE) == 0)
+        & (words::u64_at(s, FOURTH_PIECE) == 0)
+}
+
+// Check 31 of one entry: its head, then its pieces, at once where it has none.
 pub fn entry_bytes(s: &[u8]) -> bool
     requires { ⌜ entryLength ≤ length (now s) ⌝ }
     ensures { λ r. ⌜ r ≡ entryBytes (now (s .entry)) ⌝ }
@@ -150,6 +181,9 @@ pub fn entry_bytes(s: &[u8]) -> bool
         return false;
     }
     let count = s[COUNT_OFFSET];
+    if count == 0 {
+        return pieces_zero(s);
+    }
     if !piece_fits(s, FIRST_PIECE, 0, count) {
         return false;
     }

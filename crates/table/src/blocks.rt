@@ -66,7 +66,7 @@ pub fn kind_at(
 }
 
 // The start wire of block i.
-fn start_wire(
+pub fn start_wire(
     image: &[u8],
     slots: &[u8; MOST_SLOTS],
     positions: &[u8; MOST_SLOTS + 1],

@@ -18,46 +18,42 @@ abbrev μ-loop : tie.MeasureT-loop
 loop-holds : tie.Need-loop-holds Inv-loop μ-loop
 loop-holds c = serving-start _ _ _ _ _
 
-config-at-requires : tie.Need-config-at-requires Inv-loop μ-loop
-config-at-requires c κs =
-    let entry = c .before .before .before .before .before .before .before in
-    (entry .pre .0, c .loop-test .taken)
-
 serve-requires : tie.Need-serve-requires Inv-loop μ-loop
 serve-requires c κs =
-    let read = c .before .before .before in
-    let in-loop = read .before .before in
+    let in-loop = c .before .before .before .before in
     let entry = in-loop .before .before .before .before .before .before in
     let a = entry .args in
     let L = in-loop .loop in
-    serving-callable (blocksOf (a .image .now)) (record { frame = a .frame .now }) (a .state .now) (a .report .now) (a .journal .now)
-    (L .i) (L .state) (L .report) (L .journal) (L .events) (L .inv) _ (read .config-at .ensures)
-    (a .image .now) (a .count) (entry .pre .0 .answer) refl (entry .pre .1 .0) (entry .pre .1 .1) (read .before .loop-test .taken)
+    let left = c .before .before .before .loop-test .taken in (
+      (entry .pre .0, left),
+      serving-callable (blocksOf (a .image .now)) (record { frame = a .frame .now }) (a .state .now) (a .report .now) (a .journal .now)
+          (L .i) (L .state) (L .report) (L .journal) (L .events) (L .inv)
+          (a .image .now) (a .count) (entry .pre .0 .answer) refl (entry .pre .1 .0) (entry .pre .1 .1) left,
+    )
 
 add-i : tie.Need-add-i Inv-loop μ-loop
 add-i c =
-    let called = c .before .before .before .before .before .before in
-    let in-loop = called .before .before .before .before .before .before in
+    let served = c .before .before .before .before .before .before in
+    let in-loop = served .before .before .before .before .before in
     let entry = in-loop .before .before .before .before .before .before in
-    omega (arith, entry .pre .0 .chain .few, called .before .before .before .before .before .loop-test .taken)
+    omega (arith, entry .pre .0 .chain .few, served .before .before .before .before .loop-test .taken)
 
 loop-less : tie.Need-loop-less Inv-loop μ-loop
 loop-less c =
-    let called = c .before .before .before .before .before .before in
-    omega (arith, called .before .before .before .before .before .loop-test .taken)
+    let served = c .before .before .before .before .before .before in
+    omega (arith, served .before .before .before .before .loop-test .taken)
 
 loop-again : tie.Need-loop-again Inv-loop μ-loop
 loop-again c =
-    let called = c .before .before .before .before .before .before in
-    let read = called .before .before .before .before in
-    let in-loop = read .before .before in
+    let served = c .before .before .before .before .before .before in
+    let in-loop = served .before .before .before .before .before in
     let entry = in-loop .before .before .before .before .before .before in
     let a = entry .args in
     let L = in-loop .loop in
     let n = accepted-blocks (a .image .now) (a .count) (entry .pre .0 .answer) in
     serving-on (blocksOf (a .image .now)) (record { frame = a .frame .now }) (a .state .now) (a .report .now) (a .journal .now)
-    (L .i) (L .state) (L .report) (L .journal) (L .events) (L .inv) _ (read .config-at .ensures)
-    _ _ _ _ (omega (arith, n, read .before .loop-test .taken)) (called .serve .ensures)
+    (L .i) (L .state) (L .report) (L .journal) (L .events) (L .inv)
+    _ _ _ _ (omega (arith, n, served .before .before .before .before .loop-test .taken)) (served .serve .ensures)
 
 same-length : tie.Need-same-length Inv-loop μ-loop
 same-length c =
@@ -99,7 +95,6 @@ serve-all-spec =
     Inv-loop
     μ-loop
     loop-holds
-    config-at-requires
     serve-requires
     add-i
     loop-less

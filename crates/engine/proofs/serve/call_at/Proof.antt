@@ -1,12 +1,15 @@
--- `serve::call_at` meets its contract: the record and the entry, then the call.
+-- `serve::call_at` meets its contract: the inputs, the record and the entry, then the call.
 use mathlib.Core.Path.{_≡_, _∙_}
 use native.Mathlib.Nat.{add-sub-cancel-left}
-use borrow.Author.Needs.{needs}
 use Rattle.block.specs.Call.{callOf}
 use Rattle.layout.proofs.RecordLaws.{sound-record}
-use Rattle.engine.specs.Serve.{recordIn, entryIn}
+use Rattle.engine.specs.Serve.{recordIn, entryIn, callIn}
+use borrow.Author.Needs.{needs}
 use Rattle.engine.proofs.serve.call_at.Statement.{statement}
 use Rattle.engine.proofs.serve.call_at.Tie as tie
+
+inputs-at-requires : tie.Need-inputs-at-requires
+inputs-at-requires c κs = search needs
 
 mul-at : tie.Need-mul-at
 mul-at c = search needs
@@ -47,24 +50,27 @@ decode-entry-requires c κs = search needs
 call-requires : tie.Need-call-requires
 call-requires c κs =
     let decoded = c .before .before in
-    let entry = decoded .before .before .before .before in
+    let entry = decoded .before .before .before .before .before in
     let a = entry .args in
     let r : decoded .decode-record .result ≡ recordIn (a .state .now) (a .i) = rw add-sub-cancel-left at (decoded .decode-record .ensures) in
     let e : c .decode-entry .result ≡ entryIn (a .frame .now) (a .i) = rw add-sub-cancel-left at (c .decode-entry .ensures) in
-    (rw e (entry .pre .pieces), rw r (sound-record _ _ (entry .pre .isSound)))
+    (rw e (entry .pre .0 .pieces), rw r (sound-record _ _ (entry .pre .0 .isSound)))
 
 returns : tie.Need-returns
+unfolding callIn
 returns c =
     let decoded = c .before .before .before in
-    let a = decoded .before .before .before .before .args in
+    let resolved = decoded .before .before in
+    let a = resolved .before .before .before .args in
     let r : decoded .decode-record .result ≡ recordIn (a .state .now) (a .i) = rw add-sub-cancel-left at (decoded .decode-record .ensures) in
     let e : c .before .decode-entry .result ≡ entryIn (a .frame .now) (a .i) = rw add-sub-cancel-left at (c .before .decode-entry .ensures) in
-    c .call .ensures .1 ∙ (λ j. callOf (a .kind) (a .inputs) (e j) (r j))
+    c .call .ensures .1 ∙ (λ j. callOf (a .b .kind) (resolved .inputs-at .ensures j) (e j) (r j))
 
 pub call-at-spec : {M : Type 1} → statement M
 call-at-spec =
     tie.close
     (tie.spec
+    inputs-at-requires
     mul-at
     add-end
     sub-decode-record

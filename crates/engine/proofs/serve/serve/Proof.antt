@@ -1,23 +1,42 @@
 -- `serve::serve` meets its contract: an idle block leaves all but its report entry as it was; any other is called, and what the call leaves is written.
-use mathlib.Core.Path.{sym, _∙_}
+use Prim.Native.Nat.{_*_}
+use native.Mathlib.Omega.{arith}
+use mathlib.Core.Path.{refl, ap, sym, _∙_}
+use Rattle.table.specs.Blocks.{blocksOf, configAt}
+use Rattle.table.specs.declared.blocks.Wire.{Wire}
+use Rattle.table.specs.declared.blocks.BlockConfig.{BlockConfig}
+use Rattle.layout.specs.Buffer.{reportLength}
+use Rattle.layout.proofs.BufferLaws.{lent-part, lent-back}
+use Rattle.engine.specs.Serve.{Buffers, callIn}
+use Rattle.engine.specs.Idle.{idleIn}
+use Rattle.engine.proofs.ServeLaws.{served-is}
 use borrow.Author.Needs.{needs}
-use Rattle.engine.proofs.ServeLaws.{served-is, idle-is}
 use Rattle.engine.proofs.serve.serve.Statement.{statement}
 use Rattle.engine.proofs.serve.serve.Tie as tie
 
-inputs-at-requires : tie.Need-inputs-at-requires
-inputs-at-requires c κs = search needs
+start-wire-requires : tie.Need-start-wire-requires
+start-wire-requires c κs = search needs
 
 is-idle-requires : tie.Need-is-idle-requires
-is-idle-requires c κs = search needs
+is-idle-requires c κs =
+    let entry = c .before .before .before .before .before .before .before in
+    let callable = entry .pre .1 .0 .0 in
+    ((omega (arith, callable .entry), omega (arith, callable .own)), rw (c .before .start-wire .ensures) (entry .pre .1 .0 .1 .start))
 
-idle-requires : tie.Need-idle-requires
-idle-requires c κs = search needs
+mul-serve-idle : tie.Need-mul-serve-idle
+mul-serve-idle c = search needs
 
-report-call-requires : tie.Need-report-call-requires
-report-call-requires c κs =
-    let resolved = c .before .before .before .before .before in
-    resolved .before .before .before .before .before .before .pre .1 .reported
+sub-serve-idle : tie.Need-sub-serve-idle
+sub-serve-idle c = search needs
+
+part-serve-idle-start : tie.Need-part-serve-idle-start
+part-serve-idle-start c = search needs
+
+part-serve-idle-end : tie.Need-part-serve-idle-end
+part-serve-idle-end c = search needs
+
+serve-idle-requires : tie.Need-serve-idle-requires
+serve-idle-requires c κs = search needs
 
 same-length : tie.Need-same-length
 same-length c = search needs
@@ -27,22 +46,31 @@ same-length-2 c = search needs
 
 returns : tie.Need-returns
 returns c =
-    let tested = c .before .before .before .before .before .before in
-    let resolved = tested .before .before in
-    let entry = resolved .before .before .before .before .before .before in
+    let wrote = c .before .before in
+    let tested = wrote .before .before .before .before in
+    let read = tested .before .before in
+    let entry = read .before .before .before .before .before .before in
     let a = entry .args in
-    idle-is (a .b) (a .i) (a .frame .now) (a .state .now) (a .report .now) (a .journal .now) (a .events) _ (resolved .inputs-at .ensures)
-    (c .before .before .before .idle .result) (entry .pre .0 .0) (sym (tested .is-idle .ensures) ∙ c .before .before .before .before .before .if1 .taken)
-    (c .before .before .before .idle .ensures) _ (c .before .before .report-call .ensures)
+    let b = configAt (blocksOf (a .image .now)) (a .i) in
+    let before : Buffers = record { state = a .state .now; report = a .report .now; journal = a .journal .now; events = a .events } in
+    let idles = tested .is-idle .ensures ∙ ap (λ (start : Wire). idleIn start (a .i) (a .frame .now) (a .state .now)) (read .start-wire .ensures) in
+    let back = lent-back (reportLength * a .i) (a .report .now) (wrote .serve-idle .last .1 .1 .0) in
+    (λ j. record { state = a .state .now; report = back j; journal = a .journal .now; events = a .events })
+    ∙ sym (wrote .serve-idle .ensures .1 b (a .frame .now) before refl (sym (lent-part (reportLength * a .i) (a .report .now))) (entry .pre .1 .0 .0)
+    (sym idles ∙ wrote .before .before .before .if1 .taken))
+
+config-at-requires : tie.Need-config-at-requires
+config-at-requires c κs = search needs
 
 call-at-requires : tie.Need-call-at-requires
-call-at-requires c κs = search needs
+call-at-requires c κs =
+    let entry = c .before .before .before .before .before .before .before .before .before .before .before in
+    rw (c .before .config-at .ensures) (entry .pre .1 .0)
 
 write-call-requires : tie.Need-write-call-requires
 write-call-requires c κs =
-    let resolved = c .before .before .before .before .before .before .before .before in
-    let entry = resolved .before .before .before .before .before .before in
-    ((entry .pre .0 .0 .few, entry .pre .0 .0 .own), entry .pre .1)
+    let entry = c .before .before .before .before .before .before .before .before .before .before .before .before .before .before .before in
+    ((entry .pre .1 .0 .0 .few, entry .pre .1 .0 .0 .own), entry .pre .1 .1)
 
 same-length-3 : tie.Need-same-length-3
 same-length-3 c = search needs
@@ -55,24 +83,30 @@ same-length-5 c = search needs
 
 returns-2 : tie.Need-returns-2
 returns-2 c =
-    let written = c .before .before .before .before .before .before in
-    let called = written .before .before .before .before in
-    let resolved = called .before .before .before .before .before in
-    let a = resolved .before .before .before .before .before .before .args in
-    served-is (a .b) (a .i) (a .frame .now) (a .state .now) (a .report .now) (a .journal .now) (a .events) _ (resolved .inputs-at .ensures)
-    (called .call-at .result) _ (called .call-at .ensures) (written .write-call .ensures)
+    let wrote = c .before .before .before .before .before .before in
+    let called = wrote .before .before .before .before in
+    let read = called .before .before in
+    let a = read .before .before .before .before .before .before .before .before .before .before .args in
+    let before : Buffers = record { state = a .state .now; report = a .report .now; journal = a .journal .now; events = a .events } in
+    served-is (configAt (blocksOf (a .image .now)) (a .i)) (a .i) (a .frame .now) before _ (called .call-at .result)
+    (called .call-at .ensures ∙ ap (λ (b : BlockConfig). callIn b (a .i) (a .frame .now) (a .state .now)) (read .config-at .ensures))
+    (wrote .write-call .ensures)
 
 pub serve-spec : {M : Type 1} → statement M
 serve-spec =
     tie.close
     (tie.spec
-    inputs-at-requires
+    start-wire-requires
     is-idle-requires
-    idle-requires
-    report-call-requires
+    mul-serve-idle
+    sub-serve-idle
+    part-serve-idle-start
+    part-serve-idle-end
+    serve-idle-requires
     same-length
     same-length-2
     returns
+    config-at-requires
     call-at-requires
     write-call-requires
     same-length-3

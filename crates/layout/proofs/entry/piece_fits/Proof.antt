@@ -2,7 +2,7 @@
 use native.Mathlib.Omega.{arith}
 use mathlib.Core.Path.{_∙_}
 use Rattle.layout.specs.EntryLayout.{decodePiece, pieceZero}
-use Rattle.layout.proofs.CheckLaws.{piece-past, piece-counted, piece-uncounted}
+use Rattle.layout.proofs.EntryCheckLaws.{piece-past, piece-counted, piece-uncounted}
 use borrow.Author.Needs.{needs}
 use Rattle.layout.proofs.entry.piece_fits.Statement.{statement}
 use Rattle.layout.proofs.entry.piece_fits.Tie as tie

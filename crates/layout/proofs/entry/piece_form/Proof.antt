@@ -1,6 +1,6 @@
 -- `entry::piece_form` meets its contract: the reply and the zero byte as one number.
 use native.Mathlib.Omega.{arith}
-use Rattle.layout.proofs.CheckLaws.{piece-within}
+use Rattle.layout.proofs.EntryCheckLaws.{piece-within}
 use borrow.Author.Needs.{needs}
 use Rattle.layout.proofs.entry.piece_form.Statement.{statement}
 use Rattle.layout.proofs.entry.piece_form.Tie as tie

@@ -1,6 +1,6 @@
 -- `record::record_form` meets its contract: the request and the byte after it as one number, the other unnamed bytes as defined.
 use native.Mathlib.Omega.{arith}
-use Rattle.layout.proofs.CheckLaws.{form-tests}
+use Rattle.layout.proofs.RecordCheckLaws.{form-tests}
 use borrow.Author.Needs.{needs}
 use Rattle.layout.proofs.record.record_form.Statement.{statement}
 use Rattle.layout.proofs.record.record_form.Tie as tie

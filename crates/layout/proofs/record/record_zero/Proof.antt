@@ -1,5 +1,5 @@
 -- `record::record_zero` meets its contract: one number is five of eight bytes each.
-use Rattle.layout.proofs.CheckLaws.{words-zero}
+use Rattle.layout.proofs.RecordCheckLaws.{words-zero}
 use borrow.Author.Needs.{needs}
 use Rattle.layout.proofs.record.record_zero.Statement.{statement}
 use Rattle.layout.proofs.record.record_zero.Tie as tie

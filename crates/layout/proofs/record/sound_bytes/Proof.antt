@@ -4,7 +4,7 @@ use mathlib.Core.Path.{_≡_, ap, sym, _∙_}
 use mathlib.Core.Bool.{true, false}
 use Rattle.block.specs.Sound.{sound}
 use Rattle.layout.specs.RecordLayout.{decodeRecord, recordForm, soundBytes}
-use Rattle.layout.proofs.CheckLaws.{dormant-tests}
+use Rattle.layout.proofs.RecordCheckLaws.{dormant-tests}
 use borrow.Author.Needs.{needs}
 use borrow.Author.Tests.{not-true, not-false}
 use Rattle.layout.proofs.record.sound_bytes.Statement.{statement}

@@ -1,27 +1,25 @@
--- Checks 21 and 31 on bytes, with several bytes tested as one number. For `sound_bytes`, `entry_bytes` and the functions that they call.
-use Prim.Native.Nat.{ℕ, _+_, _*_, _^_, _≤_, _<_}
+-- Check 21 on the bytes of a record, with several bytes tested as one number. For `sound_bytes` and the functions that it calls, and for the engine: a sound
+-- Dormant record is all zero.
+use Prim.Native.Nat.{ℕ, _+_, _*_, _≤_, _<_}
 use mathlib.Core.Path.{_≡_, refl, ap, sym, _∙_}
-use mathlib.Core.Bool.{Bool, true, false, _&&_, _||_}
+use mathlib.Core.Bool.{Bool, true, false, _&&_}
 use mathlib.Core.List.{List, [], _∷_}
 use native.Mathlib.Omega.{arith}
 use lib.Dec.{eqb, ltb, leb}
 use lib.ListN.{length, take, replicate}
 use lib.Seq.{take-all}
-use borrow.Author.Tests.{eqb-true, eqb-false, leb-true, eq-eqb, le-leb, lt-ltb, le-ltb}
+use borrow.Author.Tests.{eqb-true, eqb-false, leb-true, eq-eqb, le-leb}
 use Rattle.words.specs.Word.{numberAt, allZero, zeroAt}
 use Rattle.words.proofs.WordLaws.{number-one, number-split}
 use Rattle.words.proofs.ZeroLaws.{zero-at, zero-is, is-zero, zero-byte, zero-split, zero-bytes}
 use Rattle.block.specs.Record.{Dormant, freshRecord}
 use Rattle.block.specs.Sound.{zeroed, flagsFit, codeSound, requestSound, stepSound, timesSound, sound}
-use Rattle.block.specs.Entry.{ErrorReply, codeFits, headFits, pieceForm, zeroPiece, pieceFits, piecesFit, entryFits}
 use Rattle.block.specs.declared.record.Record.{Record}
-use Rattle.block.specs.declared.entry.Piece.{Piece}
 use Rattle.block.proofs.Tests.{ands, each}
 use Rattle.block.proofs.Shapes.{fresh-is}
 use Rattle.block.proofs.SoundSteps.{at-step, at-dormant}
 use Rattle.layout.specs.Buffer.{recordLength, jobWidth, byteAt}
 use Rattle.layout.specs.RecordLayout.{flagsByte, decodeFlags, recordOffset, decodeRecord, recordForm, soundBytes}
-use Rattle.layout.specs.EntryLayout.{pieceLength, pieceField, decodePiece, pieceZero, entryOffset, pieceOffset, decodeEntry, headForm, entryForm, entryBytes}
 use Rattle.layout.proofs.BitLaws.{flags-back}
 use Rattle.membership.proofs.Logic.{and-left, and-right, and-join}
 use Rattle.layout.proofs.RecordLaws.{form-bytes, sound-form, sound-record}
@@ -182,89 +180,3 @@ module _ (s : List ℕ) (l : recordLength ≤ length s) where
     dormant-zeros full h =
         let all : take recordLength s ≡ s = take-all recordLength s (omega arith) in
         zero-bytes s (ap allZero (sym all) ∙ sound-zero h) ∙ ap (λ (n : ℕ). replicate n 0) full
-
--- one piece: its zero byte, and its fields
-module _ (s : List ℕ) (at : ℕ) (l : at + pieceLength ≤ length s) where
-  pub piece-within : leb (numberAt 2 s at) ErrorReply && codeFits (byteAt s at) (numberAt 2 s (at + pieceField .code)) ≡ pieceZero s at && pieceForm (decodePiece s at)
-  piece-within =
-      rw (pair-low s at (omega arith) ErrorReply (omega arith))
-      (swapped (leb (byteAt s at) ErrorReply) (pieceZero s at) (codeFits (byteAt s at) (numberAt 2 s (at + pieceField .code))))
-    where
-      swapped : (reply zero code : Bool) → reply && zero && code ≡ zero && (reply && code)
-      swapped true true code = refl
-      swapped true false code = refl
-      swapped false true code = refl
-      swapped false false code = refl
-
-  pub piece-past : eqb (numberAt pieceLength s at) 0 ≡ pieceZero s at && zeroPiece (decodePiece s at)
-  piece-past =
-      sym (zero-at pieceLength at s)
-      ∙ zero-split (pieceField .clock) 4 at s
-      ∙ rw (
-        zero-split (pieceField .code) 2 at s,
-        zero-split (pieceField .unnamed) 1 at s,
-        zero-byte at s (omega arith),
-        zero-byte (at + pieceField .unnamed) s (omega arith),
-        zero-at 2 (at + pieceField .code) s,
-        zero-at 4 (at + pieceField .clock) s,
-      )
-      (first (eqb (byteAt s at) 0) (pieceZero s at) (eqb (numberAt 2 s (at + pieceField .code)) 0) (eqb (numberAt 4 s (at + pieceField .clock)) 0))
-    where
-      first : (reply zero code clock : Bool) → reply && zero && code && clock ≡ zero && (reply && code && clock)
-      first true true code clock = refl
-      first true false code clock = refl
-      first false true code clock = refl
-      first false false code clock = refl
-
--- by the count
-pub piece-counted : (n i : ℕ) (p : Piece) (zero : Bool) → i < n → zero && pieceForm p ≡ zero && pieceFits n i p
-piece-counted n i p zero h = rw (lt-ltb i n h) (ap (λ (form : Bool). zero && form) (left (pieceForm p)))
-  where
-    left : (b : Bool) → b ≡ b || false
-    left true = refl
-    left false = refl
-
-pub piece-uncounted : (n i : ℕ) (p : Piece) (zero : Bool) → n ≤ i → zero && zeroPiece p ≡ zero && pieceFits n i p
-piece-uncounted n i p zero h = rw (le-ltb i n h)
-
--- check 31 of an entry: its head, then each piece
-abbrev pub headTest : List ℕ → Bool
-headTest s = headForm s && headFits (decodeEntry s)
-
-abbrev pub pieceTest : List ℕ → ℕ → Bool
-pieceTest s i = pieceZero s (pieceOffset i) && pieceFits (byteAt s (entryOffset .count)) i (decodePiece s (pieceOffset i))
-
-abbrev pub piecesTest : List ℕ → Bool
-piecesTest s = pieceTest s 0 && pieceTest s 1 && pieceTest s 2 && pieceTest s 3
-
-and-false : (b : Bool) → b && false ≡ false
-and-false true = refl
-and-false false = refl
-
--- the same tests, piece by piece
-by-piece : (form fits a p b q c r d t : Bool)
-    → form && a && b && c && d && (fits && (p && (q && (r && (t && true))))) ≡ form && fits && (a && p && (b && q) && (c && r) && (d && t))
-by-piece false fits a p b q c r d t = refl
-by-piece true false a p b q c r d t = and-false (a && b && c && d)
-by-piece true true false p b q c r d t = refl
-by-piece true true true false b q c r d t = and-false (b && c && d)
-by-piece true true true true false q c r d t = refl
-by-piece true true true true true false c r d t = and-false (c && d)
-by-piece true true true true true true false r d t = refl
-by-piece true true true true true true true false d t = and-false d
-by-piece true true true true true true true true false t = refl
-by-piece true true true true true true true true true true = refl
-by-piece true true true true true true true true true false = refl
-
-entry-tests : (s : List ℕ) → entryBytes s ≡ headTest s && piecesTest s
-unfolding entryBytes entryForm entryFits decodeEntry piecesFit
-entry-tests s =
-    let zero : ℕ → Bool = λ i. pieceZero s (pieceOffset i) in
-    let fits : ℕ → Bool = λ i. pieceFits (byteAt s (entryOffset .count)) i (decodePiece s (pieceOffset i)) in
-    by-piece (headForm s) (headFits (decodeEntry s)) (zero 0) (fits 0) (zero 1) (fits 1) (zero 2) (fits 2) (zero 3) (fits 3)
-
-pub entry-head : (s : List ℕ) → headTest s ≡ false → false ≡ entryBytes s
-entry-head s h = sym (entry-tests s ∙ ap (λ (head : Bool). head && piecesTest s) h)
-
-pub entry-pieces : (s : List ℕ) → headTest s ≡ true → piecesTest s ≡ entryBytes s
-entry-pieces s h = sym (entry-tests s ∙ ap (λ (head : Bool). head && piecesTest s) h)

@@ -1,0 +1,18 @@
+-- Document 02, 4/14: which blocks are idle, and what a call of one leaves.
+use Prim.Native.Nat.{ℕ}
+use mathlib.Core.Bool.{Bool, true, not, _&&_}
+use mathlib.Core.Path.{_≡_}
+use lib.Dec.{eqb}
+use Rattle.block.specs.Record.{Dormant}
+use Rattle.block.specs.Call.{unchanged, callOf}
+use Rattle.block.specs.declared.record.Record.{Record}
+use Rattle.block.specs.declared.entry.Inputs.{Inputs}
+use Rattle.block.specs.declared.entry.Entry.{Entry}
+
+-- "Dormant with start false": by the start of its call, its wire resolved, and the step of its record
+abbrev pub idle : Bool → ℕ → Bool
+idle start step = eqb step Dormant && not start
+
+-- the call of an idle block keeps the record, in one pass, with no event and no piece used: proved as idle-call in proofs/IdleLaws.antt
+abbrev pub IdleCallIsUnchanged : Type 0
+IdleCallIsUnchanged = (k : ℕ) (i : Inputs) (e : Entry) (r : Record) → idle (i .start) (r .step) ≡ true → callOf k i e r ≡ unchanged r
