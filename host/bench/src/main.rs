@@ -2,14 +2,28 @@
 //!
 //!     cargo run --release -p bench
 //!
+//! With arguments: times of an idle scan by each build of the engine that they name, a shared library made of its archive. At the
+//! root of each checkout, then in `host`:
+//!
+//!     gcc -shared -o target/lane.so -Wl,--whole-archive target/staticlib/liblane.a -Wl,--no-whole-archive
+//!     cargo run --release -p bench -- BEFORE/target/lane.so ../target/lane.so
+//!
 //! No test: it prints times and ratios, and judges nothing.
 
 mod baseline;
+mod builds;
 mod scan;
 mod table;
 mod timing;
 
-fn main() {
+use std::process::ExitCode;
+
+fn main() -> ExitCode {
+    let paths: Vec<String> = std::env::args().skip(1).collect();
+    if !paths.is_empty() {
+        return builds::run(&paths);
+    }
     table::run();
     scan::run();
+    ExitCode::SUCCESS
 }

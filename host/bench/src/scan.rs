@@ -42,7 +42,7 @@ fn by_baseline(image: &[u8], frame: &[u8], b: &mut Buffers) -> u64 {
 const ALL: [Scan; 3] = [by_engine, by_reference, by_baseline];
 
 /// A table of blocks without wires, of kinds 1 to 12 in turn: those that can be done.
-fn table(blocks: usize) -> Vec<u8> {
+pub fn table(blocks: usize) -> Vec<u8> {
     let block = |index: usize| Block::new(Kind::ALL[index % 12], tag(index + 1));
     image(&(0..blocks).map(block).collect::<Vec<_>>())
 }

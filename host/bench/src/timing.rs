@@ -28,18 +28,25 @@ fn round(work: &mut dyn FnMut(), calls: u32) -> Duration {
 }
 
 /// The median time of a call of each work, in nanoseconds; the works take turns.
-pub fn nanoseconds<const N: usize>(mut works: [&mut dyn FnMut(); N]) -> [f64; N] {
-    let calls = works.each_mut().map(|work| calls_a_round(*work));
-    let mut times = [(); N].map(|()| Vec::with_capacity(ROUNDS));
+pub fn medians(works: &mut [&mut dyn FnMut()]) -> Vec<f64> {
+    let calls: Vec<u32> = works.iter_mut().map(|work| calls_a_round(*work)).collect();
+    let mut times = vec![Vec::with_capacity(ROUNDS); works.len()];
     for _ in 0..ROUNDS {
-        for ((work, calls), times) in works.iter_mut().zip(calls).zip(&mut times) {
-            times.push(round(*work, calls).as_nanos() as f64 / f64::from(calls));
+        for ((work, calls), times) in works.iter_mut().zip(&calls).zip(&mut times) {
+            times.push(round(*work, *calls).as_nanos() as f64 / f64::from(*calls));
         }
     }
-    times.map(|mut times| {
+    let median = |mut times: Vec<f64>| {
         times.sort_by(f64::total_cmp);
         times[ROUNDS / 2]
-    })
+    };
+    times.into_iter().map(median).collect()
+}
+
+/// The same of so many works.
+pub fn nanoseconds<const N: usize>(mut works: [&mut dyn FnMut(); N]) -> [f64; N] {
+    let times = medians(&mut works);
+    std::array::from_fn(|work| times[work])
 }
 
 /// Prints the head of a list of times: the engine's, then those of the others.
