@@ -127,6 +127,10 @@ part-zeros size i n h =
     ∙ ap (take size) (drop-at before (own ++ after) (size * i) (length-replicate (size * i) 0))
     ∙ take-at own after size (length-replicate size 0)
 
+-- n bytes put at a, by what stood from a on
+pub put-from : (a n : ℕ) (v xs : List ℕ) → length v ≡ n → put a v xs ≡ take a xs ++ (v ++ drop n (drop a xs))
+put-from a n v xs full = rw (drop-drop, full)
+
 -- `&mut xs[a..]`: what is lent, what is left where it became ys, and where its first n bytes were written
 pub lent-part : (a : ℕ) (xs : List ℕ) → midOf a (length xs - a) xs ≡ drop a xs
 lent-part a xs = take-all (length xs - a) (drop a xs) (simp length-drop (omega arith))
@@ -136,7 +140,7 @@ lent-back a xs ys = rw (drop-of-length-le (drop a xs) {i = length xs - a} (simp 
 
 pub put-front : (a n : ℕ) (xs v ys : List ℕ) → length v ≡ n → ys ≡ v ++ drop n (take (length xs - a) (drop a xs))
     → putMid a (length xs - a) xs ys ≡ put a v xs
-put-front a n xs v ys full e = lent-back a xs ys ∙ rw (e, lent-part a xs, drop-drop, full)
+put-front a n xs v ys full e = lent-back a xs ys ∙ rw (e, lent-part a xs) (sym (put-from a n v xs full))
 
 -- a buffer filled from the front to place p, and n bytes more put there
 pub fill-whole : (p n : ℕ) (done chunk buf₀ buf ys : List ℕ) → length done ≡ p → length chunk ≡ n → buf ≡ done ++ drop p buf₀

@@ -8,12 +8,12 @@ use lib.Dec.{eqb, ltb, leb}
 use lib.ListN.{length}
 use borrow.Author.Tests.{ne-eqb, lt-ltb, le-ltb}
 use Rattle.words.specs.Word.{numberAt, zeroAt}
-use Rattle.words.proofs.ZeroLaws.{zero-at, zero-byte, zero-split}
+use Rattle.words.proofs.ZeroLaws.{zero-at, zero-byte, zero-split, zero-last}
 use Rattle.block.specs.Entry.{Complete, ErrorReply, mostPieces, codeFits, headFits, pieceForm, zeroPiece, pieceFits, piecesFit, entryFits}
 use Rattle.block.specs.declared.entry.Piece.{Piece}
 use Rattle.layout.specs.Buffer.{entryLength, byteAt}
 use Rattle.layout.specs.EntryLayout.{pieceLength, headLength, pieceField, decodePiece, pieceZero, entryOffset, pieceOffset, decodeEntry, headForm, entryForm, entryBytes}
-use Rattle.layout.proofs.RecordCheckLaws.{pair-low}
+use Rattle.layout.proofs.FieldLaws.{pair-low}
 
 -- one piece: its zero byte, and its fields
 module _ (s : List ℕ) (at : ℕ) (l : at + pieceLength ≤ length s) where
@@ -31,14 +31,12 @@ module _ (s : List ℕ) (at : ℕ) (l : at + pieceLength ≤ length s) where
   pub piece-past : eqb (numberAt pieceLength s at) 0 ≡ pieceZero s at && zeroPiece (decodePiece s at)
   piece-past =
       sym (zero-at pieceLength at s)
-      ∙ zero-split (pieceField .clock) 4 at s
+      ∙ zero-last (pieceField .clock) 4 at s
       ∙ rw (
-        zero-split (pieceField .code) 2 at s,
+        zero-last (pieceField .code) 2 at s,
         zero-split (pieceField .unnamed) 1 at s,
         zero-byte at s (omega arith),
         zero-byte (at + pieceField .unnamed) s (omega arith),
-        zero-at 2 (at + pieceField .code) s,
-        zero-at 4 (at + pieceField .clock) s,
       )
       (first (eqb (byteAt s at) 0) (pieceZero s at) (eqb (numberAt 2 s (at + pieceField .code)) 0) (eqb (numberAt 4 s (at + pieceField .clock)) 0))
     where
@@ -110,14 +108,11 @@ zeroPlace s i = eqb (numberAt pieceLength s (pieceOffset i)) 0
 pub pieces-zero : (s : List ℕ)
     → zeroPlace s 0 && zeroPlace s 1 && zeroPlace s 2 && zeroPlace s 3 ≡ zeroAt (pieceLength * mostPieces) s headLength
 pieces-zero s =
-    sym (zero-split (pieceLength * 3) pieceLength headLength s
+    sym (zero-last (pieceLength * 3) pieceLength headLength s
     ∙ rw (
-      zero-split (pieceLength * 2) pieceLength headLength s,
-      zero-split pieceLength pieceLength headLength s,
-      zero-at pieceLength (pieceOffset 0) s,
-      zero-at pieceLength (pieceOffset 1) s,
-      zero-at pieceLength (pieceOffset 2) s,
-      zero-at pieceLength (pieceOffset 3) s,
+      zero-last (pieceLength * 2) pieceLength headLength s,
+      zero-last pieceLength pieceLength headLength s,
+      zero-at pieceLength headLength s,
     ))
 
 pub no-pieces : (s : List ℕ) → entryLength ≤ length s → byteAt s (entryOffset .count) ≡ 0 → zeroAt (pieceLength * mostPieces) s headLength ≡ piecesTest s
@@ -151,8 +146,5 @@ entry-tests s =
     let fits : ℕ → Bool = λ i. pieceFits (byteAt s (entryOffset .count)) i (decodePiece s (pieceOffset i)) in
     by-piece (headForm s) (headFits (decodeEntry s)) (zero 0) (fits 0) (zero 1) (fits 1) (zero 2) (fits 2) (zero 3) (fits 3)
 
-pub entry-head : (s : List ℕ) → headTest s ≡ false → false ≡ entryBytes s
-entry-head s h = sym (entry-tests s ∙ ap (λ (head : Bool). head && piecesTest s) h)
-
-pub entry-pieces : (s : List ℕ) → headTest s ≡ true → piecesTest s ≡ entryBytes s
-entry-pieces s h = sym (entry-tests s ∙ ap (λ (head : Bool). head && piecesTest s) h)
+pub entry-by-head : (s : List ℕ) (head : Bool) → headTest s ≡ head → head && piecesTest s ≡ entryBytes s
+entry-by-head s head h = sym (entry-tests s ∙ ap (λ (b : Bool). b && piecesTest s) h)

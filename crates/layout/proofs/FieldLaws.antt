@@ -1,14 +1,17 @@
--- One field of a layout, over its place and width: what is read fits the width, and what was read, unnamed bytes too, is written back as it stood.
--- For the laws of records, frame entries and events.
-use Prim.Native.Nat.{ℕ, suc, _+_, _^_, _≤_, _<_}
+-- One field of a layout, over its place and width: what is read fits the width, and what was read, unnamed bytes too, is written back as it stood; a byte
+-- and a zero after it as one number. For the laws of records, frame entries and events, and of checks 21 and 31.
+use Prim.Native.Nat.{ℕ, suc, _+_, _*_, _^_, _≤_, _<_}
 use mathlib.Core.Path.{_≡_, ap, sym, _∙_}
-use mathlib.Core.Bool.{true}
+use mathlib.Core.Bool.{true, _&&_}
 use mathlib.Core.List.{List, [], _∷_, _++_, append-nil}
 use native.Mathlib.Omega.{arith}
+use lib.Dec.{eqb, leb}
 use lib.ListN.{length, take, drop, replicate, length-drop, take-append-drop, drop-of-length-le}
 use lib.Seq.{drop-cons, drop-drop, length-take-le}
+use borrow.Author.Tests.{eqb-true, leb-true, eq-eqb, le-leb}
+use Rattle.membership.proofs.Logic.{same, and-left, and-right, and-join}
 use Rattle.words.specs.Word.{Bytes, bytes, numberAt, zeroAt}
-use Rattle.words.proofs.WordLaws.{number-bound, bytes-number}
+use Rattle.words.proofs.WordLaws.{number-one, number-split, number-bound, bytes-number}
 use Rattle.words.proofs.ZeroLaws.{zero-bytes}
 use Rattle.layout.specs.Buffer.{byteAt}
 use Rattle.layout.proofs.BufferLaws.{bytes-take, bytes-drop}
@@ -43,3 +46,17 @@ pub field-last : (w i : ℕ) (s : List ℕ) → Bytes s → length s ≡ i + w �
 field-last w i s b l =
     sym (append-nil (bytes w (numberAt w s i)))
     ∙ field-back w i s [] b (omega arith) (sym (drop-of-length-le s {i = i + w} (omega arith)))
+
+-- two bytes as one number, and at most m: the second zero and the first at most m
+module _ (s : List ℕ) (i : ℕ) (h : i + 2 ≤ length s) where
+  two-bytes : numberAt 2 s i ≡ byteAt s i + 256 * byteAt s (i + 1)
+  two-bytes = omega (arith, number-split 1 1 s i (omega arith), number-one s i (omega arith), number-one s (i + 1) (omega arith))
+
+  pub pair-low : (m : ℕ) → m < 256 → leb (numberAt 2 s i) m ≡ leb (byteAt s i) m && eqb (byteAt s (i + 1)) 0
+  pair-low m f = parts (numberAt 2 s i) (byteAt s i) (byteAt s (i + 1)) two-bytes
+    where
+      parts : (n a b : ℕ) → n ≡ a + 256 * b → leb n m ≡ leb a m && eqb b 0
+      parts n a b e =
+          same (leb n m) (leb a m && eqb b 0)
+          (λ t. let z : n ≤ m = leb-true n m t in and-join (leb a m) (eqb b 0) (le-leb a m (omega arith)) (eq-eqb b 0 (omega arith)))
+          (λ t. let p : a ≤ m = leb-true a m (and-left (leb a m) (eqb b 0) t) in let q : b ≡ 0 = eqb-true b 0 (and-right (leb a m) (eqb b 0) t) in le-leb n m (omega arith))

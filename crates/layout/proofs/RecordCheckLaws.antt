@@ -1,6 +1,6 @@
 -- Check 21 on the bytes of a record, with several bytes tested as one number. For `sound_bytes` and the functions that it calls, and for the engine: a sound
 -- Dormant record is all zero.
-use Prim.Native.Nat.{ℕ, _+_, _*_, _≤_, _<_}
+use Prim.Native.Nat.{ℕ, _≤_, _<_}
 use mathlib.Core.Path.{_≡_, refl, ap, sym, _∙_}
 use mathlib.Core.Bool.{Bool, true, false, _&&_}
 use mathlib.Core.List.{List, [], _∷_}
@@ -8,10 +8,10 @@ use native.Mathlib.Omega.{arith}
 use lib.Dec.{eqb, ltb, leb}
 use lib.ListN.{length, take, replicate}
 use lib.Seq.{take-all}
-use borrow.Author.Tests.{eqb-true, eqb-false, leb-true, eq-eqb, le-leb}
+use borrow.Author.Tests.{eqb-true, eqb-false, eq-eqb}
 use Rattle.words.specs.Word.{numberAt, allZero, zeroAt}
-use Rattle.words.proofs.WordLaws.{number-one, number-split}
-use Rattle.words.proofs.ZeroLaws.{zero-at, zero-is, is-zero, zero-byte, zero-split, zero-bytes}
+use Rattle.words.proofs.ZeroLaws.{zero-at, zero-is, is-zero, zero-byte, zero-split, zero-last, zero-bytes}
+use Rattle.membership.proofs.Logic.{same, and-join}
 use Rattle.block.specs.Record.{Dormant, freshRecord}
 use Rattle.block.specs.Sound.{zeroed, flagsFit, codeSound, requestSound, stepSound, timesSound, sound}
 use Rattle.block.specs.declared.record.Record.{Record}
@@ -21,27 +21,8 @@ use Rattle.block.proofs.SoundSteps.{at-step, at-dormant}
 use Rattle.layout.specs.Buffer.{recordLength, jobWidth, byteAt}
 use Rattle.layout.specs.RecordLayout.{flagsByte, decodeFlags, recordOffset, decodeRecord, recordForm, soundBytes}
 use Rattle.layout.proofs.BitLaws.{flags-back}
-use Rattle.membership.proofs.Logic.{and-left, and-right, and-join}
+use Rattle.layout.proofs.FieldLaws.{pair-low}
 use Rattle.layout.proofs.RecordLaws.{form-bytes, sound-form, sound-record}
-
-same : (a b : Bool) → (a ≡ true → b ≡ true) → (b ≡ true → a ≡ true) → a ≡ b
-same true b f g = sym (f refl)
-same false true f g = g refl
-same false false f g = refl
-
--- two bytes as one number, and at most m: the second zero and the first at most m
-module _ (s : List ℕ) (i : ℕ) (h : i + 2 ≤ length s) where
-  two-bytes : numberAt 2 s i ≡ byteAt s i + 256 * byteAt s (i + 1)
-  two-bytes = omega (arith, number-split 1 1 s i (omega arith), number-one s i (omega arith), number-one s (i + 1) (omega arith))
-
-  pub pair-low : (m : ℕ) → m < 256 → leb (numberAt 2 s i) m ≡ leb (byteAt s i) m && eqb (byteAt s (i + 1)) 0
-  pair-low m f = parts (numberAt 2 s i) (byteAt s i) (byteAt s (i + 1)) two-bytes
-    where
-      parts : (n a b : ℕ) → n ≡ a + 256 * b → leb n m ≡ leb a m && eqb b 0
-      parts n a b e =
-          same (leb n m) (leb a m && eqb b 0)
-          (λ t. let z : n ≤ m = leb-true n m t in and-join (leb a m) (eqb b 0) (le-leb a m (omega arith)) (eq-eqb b 0 (omega arith)))
-          (λ t. let p : a ≤ m = leb-true a m (and-left (leb a m) (eqb b 0) t) in let q : b ≡ 0 = eqb-true b 0 (and-right (leb a m) (eqb b 0) t) in le-leb n m (omega arith))
 
 -- the form of a record: the request and the byte after it as one number
 pub form-tests : (s : List ℕ) → recordLength ≤ length s
@@ -71,16 +52,12 @@ module _ (s : List ℕ) (l : recordLength ≤ length s) where
   pub words-zero : wide (recordOffset .step) && wide (recordOffset .code) && wide (recordOffset .timeout) && wide (recordOffset .elapsed) && wide (recordOffset .job)
       ≡ zeroAt recordLength s 0
   words-zero =
-      sym (zero-split (recordOffset .job) jobWidth 0 s
+      sym (zero-last (recordOffset .job) jobWidth 0 s
       ∙ rw (
-        zero-split (recordOffset .elapsed) 8 0 s,
-        zero-split (recordOffset .timeout) 8 0 s,
-        zero-split (recordOffset .code) 8 0 s,
+        zero-last (recordOffset .elapsed) 8 0 s,
+        zero-last (recordOffset .timeout) 8 0 s,
+        zero-last (recordOffset .code) 8 0 s,
         zero-at 8 (recordOffset .step) s,
-        zero-at 8 (recordOffset .code) s,
-        zero-at 8 (recordOffset .timeout) s,
-        zero-at 8 (recordOffset .elapsed) s,
-        zero-at jobWidth (recordOffset .job) s,
       ))
 
   -- the fields after the step, with the unnamed bytes

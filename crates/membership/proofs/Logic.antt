@@ -11,6 +11,12 @@ by-test false f g = g refl
 pub not-both {ℓ} : {P : Type ℓ} (b : Bool) → b ≡ true → b ≡ false → P
 not-both b p q = absurd (true≢false (sym p ∙ q))
 
+-- two tests of which each gives the other
+pub same : (a b : Bool) → (a ≡ true → b ≡ true) → (b ≡ true → a ≡ true) → a ≡ b
+same true b f g = sym (f refl)
+same false true f g = g refl
+same false false f g = refl
+
 -- the two parts of a conjunction
 pub and-left : (a b : Bool) → a && b ≡ true → a ≡ true
 and-left a b h = and-eq-true-iff a b .0 h .0

@@ -49,6 +49,10 @@ zero-split v w i s =
     ∙ zero-append (take v (drop i s)) (take w (drop v (drop i s)))
     ∙ ap (λ (t : List ℕ). zeroAt v s i && allZero (take w t)) (drop-drop v i s)
 
+-- the second part as one number
+pub zero-last : (v w i : ℕ) (s : List ℕ) → zeroAt (v + w) s i ≡ zeroAt v s i && eqb (numberAt w s (i + v)) 0
+zero-last v w i s = zero-split v w i s ∙ ap (λ (b : Bool). zeroAt v s i && b) (zero-at w (i + v) s)
+
 -- as a list
 pub zero-bytes : (t : List ℕ) → allZero t ≡ true → t ≡ replicate (length t) 0
 zero-bytes t h = number-zero t (eqb-true (number t) 0 (sym (zero-number t) ∙ h))
