@@ -1,18 +1,16 @@
 -- An idle block's step: its record is all zero and stays so, it has no events, and its report entry is that of a fresh record after one pass. For the
--- proofs of `is_idle`, `serve_idle` and `serve`.
+-- proof of `serve_idle`.
 use Prim.Native.Nat.{ℕ, _+_, _*_, _≤_}
 use native.Mathlib.Nat.{add-zero}
 use native.Mathlib.Omega.{arith}
-use mathlib.Core.List.{List, _++_}
+use mathlib.Core.List.{List}
 use mathlib.Core.Path.{_≡_, ap, sym, _∙_}
-use lib.Dec.{lit<}
-use lib.ListN.{length, take, drop, replicate}
-use lib.Seq.{drop-drop}
-use Rattle.layout.specs.Buffer.{recordLength, reportLength, eventLength, byteAt, part, put}
-use Rattle.layout.specs.RecordLayout.{recordOffset, encodeRecord, decodeRecord}
+use lib.ListN.{length, drop, replicate}
+use Rattle.layout.specs.Buffer.{recordLength, reportLength, eventLength, part, put}
+use Rattle.layout.specs.RecordLayout.{encodeRecord, decodeRecord}
 use Rattle.layout.specs.ReportLayout.{encodeReport}
 use Rattle.layout.specs.EventLayout.{encodeEvents}
-use Rattle.layout.proofs.BufferLaws.{put-own, put-nothing, part-byte, part-length}
+use Rattle.layout.proofs.BufferLaws.{put-own, put-nothing, put-from, part-length}
 use Rattle.layout.proofs.RecordLaws.{encode-fresh, decode-fresh}
 use Rattle.layout.proofs.ReportLaws.{report-length}
 use Rattle.layout.proofs.RecordCheckLaws.{dormant-zeros}
@@ -21,33 +19,26 @@ use Rattle.block.specs.Call.{Outcome, unchanged}
 use Rattle.block.proofs.IdleLaws.{idle-dormant, idle-call}
 use Rattle.engine.specs.Inputs.{flagsIn, inputsOf}
 use Rattle.engine.specs.Serve.{Buffers, recordIn, entryIn, callIn, written, served}
-use Rattle.engine.specs.Idle.{withReport, idleReport, IdleIsReported}
-
--- the step of a block's record by its byte
-pub step-at : (state : List ℕ) (i : ℕ) → byteAt state (recordLength * i + recordOffset .step) ≡ recordIn state i .step
-unfolding decodeRecord
-step-at state i = part-byte recordLength i (recordOffset .step) state (lit< tt)
+use Rattle.engine.specs.Idle.{reportedFrom, idleReport, IdleIsReported}
 
 -- a call of a fresh record that keeps it writes its report entry only, where the record is all zero
 fresh-written : (i : ℕ) (buffers : Buffers) → recordLength * i + recordLength ≤ length (buffers .state) → part recordLength i (buffers .state) ≡ replicate recordLength 0
-    → written i (unchanged freshRecord) buffers ≡ withReport i (idleReport (drop (reportLength * i) (buffers .report))) buffers
+    → written i (unchanged freshRecord) buffers ≡ reportedFrom i (idleReport (drop (reportLength * i) (buffers .report))) buffers
 unfolding encodeEvents
 fresh-written i x fits zeros =
-    let entry = encodeReport (unchanged freshRecord) in
+    let o = unchanged freshRecord in
     let kept : put (recordLength * i) (encodeRecord freshRecord) (x .state) ≡ x .state =
     ap (λ (v : List ℕ). put (recordLength * i) v (x .state)) (encode-fresh ∙ sym zeros) ∙ put-own (recordLength * i) recordLength (x .state) fits in
-    let rest : drop (reportLength * i + length entry) (x .report) ≡ drop reportLength (drop (reportLength * i) (x .report)) =
-    sym (drop-drop (length entry) (reportLength * i) (x .report)) ∙ ap (λ (n : ℕ). drop n (drop (reportLength * i) (x .report))) (report-length (unchanged freshRecord)) in
     λ j. record {
       state = kept j;
-      report = take (reportLength * i) (x .report) ++ (entry ++ rest j);
+      report = put-from (reportLength * i) reportLength (encodeReport o) (x .report) (report-length o) j;
       journal = put-nothing (eventLength * x .events) (x .journal) j;
       events = add-zero (x .events) j;
     }
 
 pub idle-step : IdleIsReported
 unfolding served callIn inputsOf decodeRecord
-idle-step i state lent b frame buffers e l c idles =
+idle-step state lent i b frame buffers e l c idles =
     let own = part recordLength i state in
     let inputs = inputsOf b (flagsIn state) (entryIn frame i .inputs) in
     let full : length own ≡ recordLength = part-length recordLength i state (c .own) in

@@ -1,5 +1,5 @@
--- One block's step: flags and inputs by their bytes, the events of a call appended, and what a call leaves put together. For the proofs of
--- `input_of`, `is_idle`, `inputs_at`, `append_events`, `write_call` and `serve`.
+-- One block's step: step, flags and inputs by their bytes, the events of a call appended, and what a call leaves put together. For the proofs of
+-- `input_of`, `idle_at`, `inputs_at`, `append_events`, `write_call` and `serve`.
 use Prim.Native.Nat.{ℕ, zero, suc, _+_, _*_, _≤_}
 use native.Mathlib.Numerals.{add-one}
 use native.Mathlib.Omega.{arith}
@@ -20,9 +20,13 @@ use Rattle.block.specs.CallResult.{outcomeOf}
 use Rattle.block.specs.declared.call.CallResult.{CallResult}
 use Rattle.block.specs.declared.event.Event.{Event}
 use Rattle.engine.specs.Inputs.{flagsIn}
-use Rattle.engine.specs.Serve.{Buffers, entryIn, callIn, written, served}
+use Rattle.engine.specs.Serve.{Buffers, recordIn, entryIn, callIn, written, served}
 
--- the flags of a block's record and the inputs of its entry, each by its byte
+-- the step and the flags of a block's record and the inputs of its entry, each by its byte
+pub step-at : (state : List ℕ) (i : ℕ) → byteAt state (recordLength * i + recordOffset .step) ≡ recordIn state i .step
+unfolding decodeRecord
+step-at state i = part-byte recordLength i (recordOffset .step) state (lit< tt)
+
 pub flags-at : (state : List ℕ) (i : ℕ) → decodeFlags (byteAt state (recordLength * i + recordOffset .flags)) ≡ flagsIn state i
 unfolding decodeRecord
 flags-at state i = ap decodeFlags (part-byte recordLength i (recordOffset .flags) state (lit< tt))

@@ -1,5 +1,5 @@
 // One block's step over the lent buffers.
-use crate::idle::is_idle;
+use crate::idle::idle_at;
 use crate::idle::serve_idle;
 use crate::inputs::wired;
 use block::call::CallResult;
@@ -103,7 +103,7 @@ fn write_call(
     append_events(journal, events, (i + 1) as u8, a)
 }
 
-// The block at index i is served; the number of events now in the journal. An idle block goes to `serve_idle`, which only reads the state; any other is called.
+// The block at index i is served; the number of events now in the journal. An idle block goes to `serve_idle`, which gets the state only to read; any other is called.
 pub fn serve(
     image: &[u8],
     slots: &[u8; MOST_SLOTS],
@@ -123,9 +123,8 @@ pub fn serve(
         ≡ served (configAt (blocksOf (now (image .entry))) i) i (now (frame .entry))
         (record { state = now (state .entry); report = now (report .entry); journal = now (journal .entry); events = events }) ⌝ }
 {
-    let start = table::blocks::start_wire(image, slots, positions, count, i);
-    if is_idle(start, i, frame, &state[..]) {
-        serve_idle(i, &state[..], &mut report[REPORT_BYTES * i..]);
+    if idle_at(image, slots, positions, count, i, frame, &state[..]) {
+        serve_idle(&state[..], &mut report[REPORT_BYTES * i..]);
         return events;
     }
     let b = table::blocks::config_at(image, slots, positions, count, i);

@@ -1,13 +1,14 @@
--- `idle::is_idle` meets its contract: start by the entry's byte of inputs and the wire, the step by its byte of the record.
-use mathlib.Core.Path.{ap, _∙_}
+-- `idle::idle_at` meets its contract: start by the wire and the entry's byte of inputs, the step by its byte of the record.
+use mathlib.Core.Path.{_∙_}
 use Rattle.block.specs.Idle.{idle}
-use Rattle.block.specs.declared.entry.Inputs.{Inputs}
-use Rattle.engine.specs.Inputs.{flagsIn, inputOf}
-use Rattle.engine.proofs.ServeLaws.{bits-at}
-use Rattle.engine.proofs.IdleLaws.{step-at}
+use Rattle.engine.specs.Inputs.{flagsIn, inputOf, inputsOf}
+use Rattle.engine.proofs.ServeLaws.{step-at, bits-at}
 use borrow.Author.Needs.{needs}
-use Rattle.engine.proofs.idle.is_idle.Statement.{statement}
-use Rattle.engine.proofs.idle.is_idle.Tie as tie
+use Rattle.engine.proofs.idle.idle_at.Statement.{statement}
+use Rattle.engine.proofs.idle.idle_at.Tie as tie
+
+start-wire-requires : tie.Need-start-wire-requires
+start-wire-requires c κs = search needs
 
 mul-decode-inputs : tie.Need-mul-decode-inputs
 mul-decode-inputs c = search needs
@@ -22,7 +23,9 @@ decode-inputs-requires : tie.Need-decode-inputs-requires
 decode-inputs-requires c κs = search needs
 
 input-of-requires : tie.Need-input-of-requires
-input-of-requires c κs = search needs
+input-of-requires c κs =
+    let read = c .before .before in
+    rw (read .start-wire .ensures) (read .before .before .before .before .pre .1 .1 .start)
 
 mul-is-idle : tie.Need-mul-is-idle
 mul-is-idle c = search needs
@@ -37,18 +40,21 @@ is-idle-requires : tie.Need-is-idle-requires
 is-idle-requires c κs = search needs
 
 returns : tie.Need-returns
+unfolding inputsOf
 returns c =
     let resolved = c .before .before in
     let decoded = resolved .before in
-    let a = decoded .before .before .before .before .args in
+    let read = decoded .before .before in
+    let a = read .before .before .before .before .args in
     let bits = decoded .decode-inputs .ensures ∙ bits-at (a .frame .now) (a .i) in
-    let on = resolved .input-of .ensures ∙ ap (λ (bits : Inputs). inputOf (a .start) (flagsIn (a .state .now)) (bits .start)) bits in
-    c .is-idle .ensures ∙ (λ j. idle (on j) (step-at (a .state .now) (a .i) j))
+    let start = resolved .input-of .ensures ∙ (λ j. inputOf (read .start-wire .ensures j) (flagsIn (a .state .now)) (bits j .start)) in
+    c .is-idle .ensures ∙ (λ j. idle (start j) (step-at (a .state .now) (a .i) j))
 
-pub is-idle-spec : {M : Type 1} → statement M
-is-idle-spec =
+pub idle-at-spec : {M : Type 1} → statement M
+idle-at-spec =
     tie.close
     (tie.spec
+    start-wire-requires
     mul-decode-inputs
     add-decode-inputs
     shared-slice-read-decode-inputs

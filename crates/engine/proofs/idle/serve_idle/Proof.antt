@@ -6,7 +6,7 @@ use lib.ListN.{drop}
 use Rattle.block.specs.Call.{Outcome}
 use Rattle.layout.specs.Buffer.{reportLength}
 use Rattle.layout.specs.ReportLayout.{encodeReport}
-use Rattle.engine.specs.Idle.{withReport}
+use Rattle.engine.specs.Idle.{reportedFrom}
 use Rattle.engine.proofs.IdleLaws.{idle-step}
 use borrow.Author.Needs.{needs}
 use Rattle.engine.proofs.idle.serve_idle.Statement.{statement}
@@ -25,10 +25,10 @@ returns : tie.Need-returns
 returns c =
     let wrote = c .before .before in
     let a = wrote .before .before .before .before .before .args in
-    let left = wrote .write-report .ensures ∙ ap (λ (o : Outcome). encodeReport o ++ drop reportLength (a .own .now)) (wrote .before .idle .ensures) in (
+    let left = wrote .write-report .ensures ∙ ap (λ (o : Outcome). encodeReport o ++ drop reportLength (a .lent .now)) (wrote .before .idle .ensures) in (
       left,
-      λ b frame buffers e l callable idles.
-          idle-step (a .i) (a .state .now) (a .own .now) b frame buffers e l callable idles ∙ ap (λ (r : List ℕ). withReport (a .i) r buffers) (sym left),
+      λ i b frame buffers e l callable idles.
+          idle-step (a .state .now) (a .lent .now) i b frame buffers e l callable idles ∙ ap (λ (r : List ℕ). reportedFrom i r buffers) (sym left),
     )
 
 pub serve-idle-spec : {M : Type 1} → statement M

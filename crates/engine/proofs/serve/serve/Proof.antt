@@ -3,25 +3,20 @@ use Prim.Native.Nat.{_*_}
 use native.Mathlib.Omega.{arith}
 use mathlib.Core.Path.{refl, ap, sym, _∙_}
 use Rattle.table.specs.Blocks.{blocksOf, configAt}
-use Rattle.table.specs.declared.blocks.Wire.{Wire}
 use Rattle.table.specs.declared.blocks.BlockConfig.{BlockConfig}
 use Rattle.layout.specs.Buffer.{reportLength}
 use Rattle.layout.proofs.BufferLaws.{lent-part, lent-back}
 use Rattle.engine.specs.Serve.{Buffers, callIn}
-use Rattle.engine.specs.Idle.{idleIn}
 use Rattle.engine.proofs.ServeLaws.{served-is}
 use borrow.Author.Needs.{needs}
 use Rattle.engine.proofs.serve.serve.Statement.{statement}
 use Rattle.engine.proofs.serve.serve.Tie as tie
 
-start-wire-requires : tie.Need-start-wire-requires
-start-wire-requires c κs = search needs
-
-is-idle-requires : tie.Need-is-idle-requires
-is-idle-requires c κs =
-    let entry = c .before .before .before .before .before .before .before in
+idle-at-requires : tie.Need-idle-at-requires
+idle-at-requires c κs =
+    let entry = c .before .before .before .before .before .before in
     let callable = entry .pre .1 .0 .0 in
-    ((omega (arith, callable .entry), omega (arith, callable .own)), rw (c .before .start-wire .ensures) (entry .pre .1 .0 .1 .start))
+    (entry .pre .0, ((omega (arith, callable .entry), omega (arith, callable .own)), entry .pre .1 .0 .1))
 
 mul-serve-idle : tie.Need-mul-serve-idle
 mul-serve-idle c = search needs
@@ -48,28 +43,28 @@ returns : tie.Need-returns
 returns c =
     let wrote = c .before .before in
     let tested = wrote .before .before .before .before in
-    let read = tested .before .before in
-    let entry = read .before .before .before .before .before .before in
+    let entry = tested .before .before .before .before .before .before .before in
     let a = entry .args in
     let b = configAt (blocksOf (a .image .now)) (a .i) in
     let before : Buffers = record { state = a .state .now; report = a .report .now; journal = a .journal .now; events = a .events } in
-    let idles = tested .is-idle .ensures ∙ ap (λ (start : Wire). idleIn start (a .i) (a .frame .now) (a .state .now)) (read .start-wire .ensures) in
-    let back = lent-back (reportLength * a .i) (a .report .now) (wrote .serve-idle .last .1 .1 .0) in
+    let back = lent-back (reportLength * a .i) (a .report .now) (wrote .serve-idle .last .1 .0) in
     (λ j. record { state = a .state .now; report = back j; journal = a .journal .now; events = a .events })
-    ∙ sym (wrote .serve-idle .ensures .1 b (a .frame .now) before refl (sym (lent-part (reportLength * a .i) (a .report .now))) (entry .pre .1 .0 .0)
-    (sym idles ∙ wrote .before .before .before .if1 .taken))
+    ∙ sym (wrote .serve-idle .ensures .1 (a .i) b (a .frame .now) before refl (sym (lent-part (reportLength * a .i) (a .report .now))) (entry .pre .1 .0 .0)
+    (sym (tested .idle-at .ensures) ∙ wrote .before .before .before .if1 .taken))
 
 config-at-requires : tie.Need-config-at-requires
 config-at-requires c κs = search needs
 
 call-at-requires : tie.Need-call-at-requires
 call-at-requires c κs =
-    let entry = c .before .before .before .before .before .before .before .before .before .before .before in
+    let tested = c .before .before .before in
+    let entry = tested .before .before .before .before .before .before .before in
     rw (c .before .config-at .ensures) (entry .pre .1 .0)
 
 write-call-requires : tie.Need-write-call-requires
 write-call-requires c κs =
-    let entry = c .before .before .before .before .before .before .before .before .before .before .before .before .before .before .before in
+    let tested = c .before .before .before .before .before .before .before in
+    let entry = tested .before .before .before .before .before .before .before in
     ((entry .pre .1 .0 .0 .few, entry .pre .1 .0 .0 .own), entry .pre .1 .1)
 
 same-length-3 : tie.Need-same-length-3
@@ -86,7 +81,7 @@ returns-2 c =
     let wrote = c .before .before .before .before .before .before in
     let called = wrote .before .before .before .before in
     let read = called .before .before in
-    let a = read .before .before .before .before .before .before .before .before .before .before .args in
+    let a = read .before .before .before .before .before .before .before .before .before .args in
     let before : Buffers = record { state = a .state .now; report = a .report .now; journal = a .journal .now; events = a .events } in
     served-is (configAt (blocksOf (a .image .now)) (a .i)) (a .i) (a .frame .now) before _ (called .call-at .result)
     (called .call-at .ensures ∙ ap (λ (b : BlockConfig). callIn b (a .i) (a .frame .now) (a .state .now)) (read .config-at .ensures))
@@ -96,8 +91,7 @@ pub serve-spec : {M : Type 1} → statement M
 serve-spec =
     tie.close
     (tie.spec
-    start-wire-requires
-    is-idle-requires
+    idle-at-requires
     mul-serve-idle
     sub-serve-idle
     part-serve-idle-start
