@@ -3,6 +3,7 @@
 use crate::scan::table;
 use crate::table::SIZES;
 use crate::timing::medians;
+use lane::MAX_BLOCKS;
 use std::ffi::{c_char, c_int, c_void, CString};
 use std::hint::black_box;
 use std::mem::transmute;
@@ -123,22 +124,31 @@ impl Idle {
     }
 }
 
-/// Measures the builds and prints a line for each: its times, and the last one's ratio to that of the build named first.
-pub fn run(paths: &[String]) -> ExitCode {
-    let mut scans = Vec::new();
-    for path in paths {
-        let Some(scan) = load(path) else {
-            eprintln!("{path}: no shared library with a lane_scan");
-            return ExitCode::FAILURE;
-        };
-        scans.push(scan);
-    }
-    let times = SIZES.map(|blocks| {
-        let mut idle: Vec<Idle> = scans.iter().map(|scan| Idle::new(*scan, blocks)).collect();
-        let mut works: Vec<_> = idle.iter_mut().map(|i| || _ = black_box(i.run())).collect();
-        let mut works: Vec<_> = works.iter_mut().map(|w| w as &mut dyn FnMut()).collect();
-        medians(&mut works)
-    });
+/// A part of a scan: its name, and what makes a scan stop right after it.
+type Part = (&'static str, fn(&mut Idle));
+
+/// The parts of a scan, which is refused for the length of the next buffer after each but the last.
+const PARTS: [Part; 4] = [
+    ("table", |idle| _ = idle.state.pop()),
+    ("state", |idle| _ = idle.frame.pop()),
+    ("frame", |idle| _ = idle.report.pop()),
+    ("serving", |_| ()),
+];
+
+/// The median times of scans, in turns.
+fn times(mut scans: Vec<Idle>) -> Vec<f64> {
+    let mut works: Vec<_> = scans
+        .iter_mut()
+        .map(|idle| || _ = black_box(idle.run()))
+        .collect();
+    let mut works: Vec<_> = works.iter_mut().map(|w| w as &mut dyn FnMut()).collect();
+    medians(&mut works)
+}
+
+/// Prints the time of an idle scan by each build, and the last one's ratio to that of the build named first.
+fn print_scans(paths: &[String], scans: &[Scan]) {
+    let idle = |blocks| scans.iter().map(move |scan| Idle::new(*scan, blocks));
+    let times = SIZES.map(|blocks| times(idle(blocks).collect()));
     println!("Idle scan: nanoseconds a call (median), kinds 1 to 12 in turn, no wires.\n");
     print!("{:<10}", "blocks");
     SIZES.iter().for_each(|blocks| print!("{blocks:>10}"));
@@ -151,5 +161,46 @@ pub fn run(paths: &[String]) -> ExitCode {
         let last = &times[SIZES.len() - 1];
         println!("{:>9.2}  {path}", last[number] / last[0]);
     }
+}
+
+/// Prints the time of each part of an idle scan of 64 blocks by each build: what a scan takes more that goes so far.
+fn print_parts(paths: &[String], scans: &[Scan]) {
+    let idle = scans.iter().flat_map(|scan| {
+        PARTS.map(|(_, shorten)| {
+            let mut idle = Idle::new(*scan, MAX_BLOCKS);
+            shorten(&mut idle);
+            idle
+        })
+    });
+    let times = times(idle.collect());
+    println!(
+        "\nIts parts at 64 blocks: checks of the table, the state and the frame, and serving.\n"
+    );
+    print!("{:<10}", "");
+    PARTS.iter().for_each(|(name, _)| print!("{name:>10}"));
+    println!();
+    for (times, path) in times.chunks(PARTS.len()).zip(paths) {
+        print!("{:<10}", "");
+        let mut before = 0.0;
+        for time in times {
+            print!("{:>10.1}", time - before);
+            before = *time;
+        }
+        println!("  {path}");
+    }
+}
+
+/// Measures the builds and prints a line for each.
+pub fn run(paths: &[String]) -> ExitCode {
+    let mut scans = Vec::new();
+    for path in paths {
+        let Some(scan) = load(path) else {
+            eprintln!("{path}: no shared library with a lane_scan");
+            return ExitCode::FAILURE;
+        };
+        scans.push(scan);
+    }
+    print_scans(paths, &scans);
+    print_parts(paths, &scans);
     ExitCode::SUCCESS
 }

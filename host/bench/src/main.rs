@@ -2,9 +2,10 @@
 //!
 //!     cargo run --release -p bench
 //!
-//! With arguments: times of an idle scan by each build of the engine that they name, a shared library made of its archive. At the
+//! With arguments: times of an idle scan and its parts by each build of the engine that they name, a shared library made of its archive. At the
 //! root of each checkout, then in `host`:
 //!
+//!     rt staticlib lane
 //!     gcc -shared -o target/lane.so -Wl,--whole-archive target/staticlib/liblane.a -Wl,--no-whole-archive
 //!     cargo run --release -p bench -- BEFORE/target/lane.so ../target/lane.so
 //!

@@ -328,7 +328,8 @@ impl Met {
         }
     }
 
-    /// Fails unless every form was met, on every kind, and nearly all blocks were idle.
+    /// Fails unless every form was met, blocks of every kind were idle, started and became Dormant again, and nearly all
+    /// blocks were idle.
     fn expect_all(&self) {
         for (count, (name, _)) in self.forms.iter().zip(FORMS) {
             assert!(*count > 0, "no call {name}\n{self}");
@@ -574,9 +575,9 @@ fn fronts() -> impl Iterator<Item = [u8; 6]> {
     })
 }
 
-/// Every head of an entry, with no unnamed byte set and with each one alone.
+/// Heads of an entry, each field at and beside its bounds, with no unnamed byte set and with each one alone.
 #[test]
-fn every_head() {
+fn heads_beside_their_bounds() {
     let mut scans = OneBlock::new(213);
     for front in fronts() {
         let entry = headed(front);
@@ -596,7 +597,13 @@ fn every_head() {
 }
 
 /// An entry with so many pieces: this one at an index, others at the others.
-fn with_pieces(start: u8, count: u8, index: usize, own: [u8; 8], other: [u8; 8]) -> [u8; 64] {
+fn with_pieces(
+    start: u8,
+    count: u8,
+    index: usize,
+    own: [u8; 8],
+    other: [u8; 8],
+) -> [u8; ENTRY_BYTES] {
     let mut entry = headed([start, count, 0, 0, 0, 0]);
     let (pieces, _) = entry[24..56].as_chunks_mut();
     for piece in pieces.iter_mut().take(usize::from(count)) {
@@ -631,7 +638,7 @@ fn with_piece(start: u8, count: u8, index: usize) -> Vec<[u8; ENTRY_BYTES]> {
 
 /// Every byte of every piece of an entry, with each count of pieces.
 #[test]
-fn every_piece() {
+fn each_byte_of_each_piece() {
     let mut scans = OneBlock::new(214);
     for (start, count) in [0, 1]
         .into_iter()
@@ -651,6 +658,6 @@ fn every_piece() {
     let (counted, past) = (1 + 3 * (2 + 3 + 4), 4 + 3 * (3 + 2 + 1));
     // Of 32 settings of a piece of zeros 1 + 16 are in form, with code 2 1 + 3 + 4 + 16, with code 256 1 + 4 + 4 + 16.
     let (all, formed) = (32 * (3 * counted + past), counted * (17 + 24 + 25));
-    println!("{all} entries on each kind, Dormant and started, {formed} of them in form");
+    println!("{all} entries on each kind, with start false and again with start true, {formed} of them in form");
     scans.expect(2 * formed, 2 * (all - formed));
 }
