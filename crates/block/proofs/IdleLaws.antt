@@ -28,8 +28,8 @@ idle-dormant start step h = eqb-true step Dormant (and-left (eqb step Dormant) (
 idle-pass : (k : ℕ) (i : Inputs) (e : Entry) (r : Record) → idle (i .start) (r .step) ≡ true → pass k i e r ≡ stop 0 r
 unfolding rule dormant
 idle-pass k i e r h =
-    let off : i .start ≡ false = not-true (i .start) (and-right (eqb (r .step) Dormant) (not (i .start)) h) in
-    rw (idle-dormant (i .start) (r .step) h, off)
+    let low : i .start ≡ false = not-true (i .start) (and-right (eqb (r .step) Dormant) (not (i .start)) h) in
+    rw (idle-dormant (i .start) (r .step) h, low)
 
 off : {A : Type 0} (b : Bool) (x y : A) → b ≡ false → cond b x y ≡ y
 off true x y h = never h

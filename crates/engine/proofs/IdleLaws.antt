@@ -37,7 +37,7 @@ fresh-written i x fits zeros =
     }
 
 pub idle-step : IdleIsReported
-unfolding served callIn inputsOf decodeRecord
+unfolding served callIn decodeRecord
 idle-step state lent i b frame buffers e l c idles =
     let own = part recordLength i state in
     let inputs = inputsOf b (flagsIn state) (entryIn frame i .inputs) in
