@@ -163,7 +163,8 @@ fn print_scans(paths: &[String], scans: &[Scan]) {
     }
 }
 
-/// Prints the time of each part of an idle scan of 64 blocks by each build: what a scan takes more that goes so far.
+/// Prints the time of each part of an idle scan of 64 blocks by each build: that of a scan which ends after the part, less that of
+/// one which ends before it.
 fn print_parts(paths: &[String], scans: &[Scan]) {
     let idle = scans.iter().flat_map(|scan| {
         PARTS.map(|(_, shorten)| {

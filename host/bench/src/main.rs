@@ -2,8 +2,8 @@
 //!
 //!     cargo run --release -p bench
 //!
-//! With arguments: times of an idle scan and its parts by each build of the engine that they name, a shared library made of its archive. At the
-//! root of each checkout, then in `host`:
+//! With arguments: times of an idle scan and of its parts by each build of the engine that they name, a shared library made of its
+//! archive. At the root of each checkout, then in `host`:
 //!
 //!     rt staticlib lane
 //!     gcc -shared -o target/lane.so -Wl,--whole-archive target/staticlib/liblane.a -Wl,--no-whole-archive
