@@ -23,7 +23,7 @@ use Rattle.membership.proofs.Logic.{by-test}
 use Rattle.table.proofs.Logic.{not-failed}
 use Rattle.membership.proofs.AmongLaws.{among-at, AllIn, all-snoc, all-at}
 use Rattle.table.proofs.PositionLaws.{position-snoc, position-zero, position-some, position-test}
-use Rattle.table.proofs.Walk.{unmet-nil, unmet-more, walk-ends, walk-above, walk-again, walk-onward}
+use Rattle.table.proofs.Walk.{unmet-nil, unmet-more, unmet-none, walk-ends, walk-above, walk-again, walk-onward}
 
 zero-at : (n k : ℕ) → getD {A = ℕ} (replicate n 0) k 0 ≡ 0
 zero-at zero k = refl
@@ -152,22 +152,32 @@ pub chain-in : (image : List ℕ) → AllIn (slotCount image) (chainOf image)
 unfolding walked
 chain-in image = walk-in (unmet (slotCount image) []) image [] Header (headSlot image) tt
 
--- and has N slots at most
-walk-few : (left : ℕ) (image met : List ℕ) (from : Place) (at : ℕ) → length (slotsOf (walkIn left image met from at)) ≤ length met + left
+-- and meets as many of them as it has: what is left are those off the chain
+walk-room : (left : ℕ) (image met : List ℕ) (from : Place) (at : ℕ) → length met + unmet (slotCount image) met ≡ slotCount image
+    → length (slotsOf (walkIn left image met from at)) + unmet (slotCount image) (slotsOf (walkIn left image met from at)) ≡ slotCount image
 unfolding walkIn
-walk-few zero image met from at =
-    by-test (eqb at 0) (λ z. simp z (omega arith))
-    (λ z. by-test (ltb (slotCount image) at) (λ g. simp (z, g) (omega arith))
-    (λ g. by-test (among at met) (λ m. simp (z, g, m) (omega arith)) (λ m. simp (z, g, m) (omega arith))))
-walk-few (suc left) image met from at =
-    by-test (eqb at 0) (λ z. simp z (omega arith))
-    (λ z. by-test (ltb (slotCount image) at) (λ g. simp (z, g) (omega arith))
-    (λ g. by-test (among at met) (λ m. simp (z, g, m) (omega arith))
-    (λ m. simp (z, g, m) (omega (arith, walk-few left image (met ++ (at ∷ [])) (Slot at) (nextOf image at), length-append met (at ∷ []))))))
+walk-room zero image met from at h =
+    by-test (eqb at 0) (λ z. simp z h)
+    (λ z. by-test (ltb (slotCount image) at) (λ g. simp (z, g) (omega (arith, unmet-nil (slotCount image))))
+    (λ g. by-test (among at met) (λ m. simp (z, g, m) (omega (arith, unmet-nil (slotCount image)))) (λ m. simp (z, g, m) (omega (arith, unmet-nil (slotCount image))))))
+walk-room (suc left) image met from at h =
+    by-test (eqb at 0) (λ z. simp z h)
+    (λ z. by-test (ltb (slotCount image) at) (λ g. simp (z, g) (omega (arith, unmet-nil (slotCount image))))
+    (λ g. by-test (among at met) (λ m. simp (z, g, m) (omega (arith, unmet-nil (slotCount image))))
+    (λ m. simp (z, g, m)
+    (walk-room left image (met ++ (at ∷ [])) (Slot at) (nextOf image at)
+    (omega (arith, length-append met (at ∷ []), unmet-more (slotCount image) met at (omega (arith, eqb-false at 0 z)) (ltb-false _ _ g) m))))))
 
-pub chain-few : (image : List ℕ) → length (chainOf image) ≤ slotCount image
+chain-room : (image : List ℕ) → length (chainOf image) + unmet (slotCount image) (chainOf image) ≡ slotCount image
 unfolding walked
-chain-few image = omega (arith, walk-few (unmet (slotCount image) []) image [] Header (headSlot image), unmet-nil (slotCount image))
+chain-room image = walk-room (unmet (slotCount image) []) image [] Header (headSlot image) (omega (arith, unmet-nil (slotCount image)))
+
+-- so it has N slots at most, and all of them where it has N
+pub chain-few : (image : List ℕ) → length (chainOf image) ≤ slotCount image
+chain-few image = omega (arith, chain-room image)
+
+pub chain-all : (image : List ℕ) → length (chainOf image) ≡ slotCount image → (slot : ℕ) → 0 < slot → slot ≤ slotCount image → among slot (chainOf image) ≡ true
+chain-all image e slot p q = unmet-none (slotCount image) (chainOf image) (omega (arith, chain-room image)) slot p q
 
 -- a slot of 1 to N has its bytes in the image
 pub has-slot : (image : List ℕ) (slot : ℕ) → HeaderOk image → 0 < slot → slot ≤ slotCount image → HasSlot image slot

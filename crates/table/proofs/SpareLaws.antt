@@ -1,11 +1,14 @@
--- Laws of the spare slots: sixteen zeros by two numbers, for the proof of spare::slot_zero, and what the loop of spare::check_spares keeps, for its proof.
-use Prim.Native.Nat.{ℕ, suc, _+_, _-_, _*_, _≤_, _<_}
-use mathlib.Core.Path.{_≡_, sym, _∙_}
+-- Laws of the spare slots: sixteen zeros by two numbers, for the proof of spare::slot_zero; that there are none where the chain has all slots, and what the
+-- loop of spare::check_spares keeps, for its proof.
+use Prim.Native.Nat.{ℕ, zero, suc, _+_, _-_, _*_, _≤_, _<_}
+use mathlib.Core.Path.{_≡_, refl, sym, _∙_}
 use mathlib.Core.List.{List}
 use mathlib.Core.Bool.{true, false, _&&_}
 use native.Mathlib.Omega.{arith}
 use native.Mathlib.Numerals.{add-one}
 use lib.Dec.{eqb}
+use lib.ListN.{length}
+use Rattle.membership.specs.Membership.{among}
 use Rattle.words.specs.Word.{numberAt, zeroAt}
 use Rattle.words.proofs.ZeroLaws.{zero-at, zero-split}
 use Rattle.table.specs.Place.{require}
@@ -14,10 +17,22 @@ use Rattle.table.specs.Chain.{chainOf}
 use Rattle.table.specs.Spare.{spareOk, sparesFrom, sparesCheck}
 use Rattle.table.specs.declared.place.Place.the-variants.{Slot}
 use Rattle.table.specs.declared.place.Verdict.the-variants.{Passed, Failed}
+use Rattle.table.proofs.ChainLaws.{chain-all}
 
 -- a slot's bytes: those before the tag, and the tag
 pub zero-sixteen : (s : List ℕ) (a : ℕ) → zeroAt slotLength s a ≡ (eqb (numberAt tagOffset s a) 0 && eqb (numberAt tagLength s (a + tagOffset)) 0)
 zero-sixteen s a = zero-split tagOffset tagLength a s ∙ rw (zero-at tagOffset a s, zero-at tagLength (a + tagOffset) s)
+
+-- a chain of all N slots leaves no spare ones
+spares-none : (image chain : List ℕ) (n : ℕ) → ((slot : ℕ) → 0 < slot → slot ≤ n → among slot chain ≡ true) → (slot left : ℕ) → 0 < slot → slot + left ≤ suc n
+    → sparesFrom image chain slot left ≡ Passed
+unfolding sparesFrom
+spares-none image chain n all slot zero p h = refl
+spares-none image chain n all slot (suc left) p h = simp (all slot p (omega arith)) (spares-none image chain n all (suc slot) left (omega arith) (omega arith))
+
+pub no-spares : (image : List ℕ) → length (chainOf image) ≡ slotCount image → Passed ≡ sparesCheck image
+unfolding sparesCheck
+no-spares image e = sym (spares-none image (chainOf image) (slotCount image) (chain-all image e) 1 (slotCount image) (omega arith) (omega arith))
 
 -- one slot, and those above it
 spare-at : (image chain : List ℕ) (n slot : ℕ) → slot ≤ n

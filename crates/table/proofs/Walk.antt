@@ -43,6 +43,17 @@ unmet-more (suc n) met at p h m =
     (λ f. simp (among-snoc, f, unmet-more n met at p i m))
     (λ f. simp (among-snoc, f, e, unmet-more n met at p i m)))
 
+-- where none is left, all of 1 to n are met
+pub unmet-none : (n : ℕ) (met : List ℕ) → unmet n met ≡ 0 → (slot : ℕ) → 0 < slot → slot ≤ n → among slot met ≡ true
+unfolding unmet
+unmet-none zero met e slot p h = absurd (omega arith)
+unmet-none (suc n) met e slot p h =
+    by-test (among (suc n) met)
+    (λ m. by-test (eqb slot (suc n))
+    (λ q. let s : slot ≡ suc n = eqb-true slot (suc n) q in rw s m)
+    (λ q. unmet-none n met (simp m at e) slot p (omega (arith, eqb-false slot (suc n) q))))
+    (λ m. let z : suc (unmet n met) ≡ 0 = simp m at e in absurd (omega arith))
+
 walk-rule : (image met : List ℕ) (from : Place) (at : ℕ)
     → walkFrom image met from at ≡ atLink image met from at (walkFrom image (met ++ (at ∷ [])) (Slot at) (nextOf image at))
 unfolding walkIn

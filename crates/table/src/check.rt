@@ -53,7 +53,7 @@ pub fn check_table(
     let Verdict::Passed = records else {
         return answered(records, count);
     };
-    let spares = check_spares(image, positions);
+    let spares = check_spares(image, positions, count);
     answered(spares, count)
 }
 

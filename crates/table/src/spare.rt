@@ -1,5 +1,6 @@
 // Check 11: the slots off the chain.
 ghost use mathlib.Core.Path.{_≡_};
+ghost use lib.ListN.{length};
 ghost use Rattle.image.specs.Image.{slotBytes, HasSlot};
 ghost use Rattle.table.specs.Header.{HeaderOk};
 ghost use Rattle.table.specs.Chain.{chainOf, HoldsPositions};
@@ -34,13 +35,16 @@ fn spare_ok(image: &[u8], positions: &[u8; MOST_SLOTS + 1], slot: u8) -> bool
     slot_zero(image, slot)
 }
 
-// The slots from the lowest on.
-pub fn check_spares(image: &[u8], positions: &[u8; MOST_SLOTS + 1]) -> Verdict
+// The slots from the lowest on; a chain of as many blocks as there are slots leaves none.
+pub fn check_spares(image: &[u8], positions: &[u8; MOST_SLOTS + 1], count: usize) -> Verdict
     requires { ⌜ HeaderOk (now image) ⌝ }
-    requires { ⌜ HoldsPositions (chainOf (now image)) (now positions) ⌝ }
+    requires { ⌜ HoldsPositions (chainOf (now image)) (now positions) × (length (chainOf (now image)) ≡ count) ⌝ }
     ensures { λ r. ⌜ r ≡ sparesCheck (now (image .entry)) ⌝ }
 {
     let n = image[SLOT_COUNT_OFFSET];
+    if count == n as usize {
+        return Verdict::Passed;
+    }
     let mut slot: u8 = 1;
     while slot <= n {
         if !spare_ok(image, positions, slot) {

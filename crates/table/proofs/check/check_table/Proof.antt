@@ -111,7 +111,8 @@ check-spares-requires : tie.Need-check-spares-requires
 check-spares-requires c κs =
     let q = before-records (records (c .before)) in
     let p = before-walk (chain q) in
-    (header-ok-by (image p) (header-passed p), chain q .walk .ensures .1 (q .enum-told3 .given .1) .places)
+    let held = chain q .walk .ensures .1 (q .enum-told3 .given .1) in
+    (header-ok-by (image p) (header-passed p), (held .places, held .counted))
 
 answered-requires-4 : tie.Need-answered-requires-4
 answered-requires-4 c κs = search needs
