@@ -4,6 +4,7 @@ pub mod Walk
 pub mod ChainLaws
 pub mod TagLaws
 pub mod TagFormLaws
+pub mod WireLaws
 pub mod RecordLaws
 pub mod SpareLaws
 pub mod CheckLaws

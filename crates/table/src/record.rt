@@ -6,7 +6,7 @@ ghost use mathlib.Core.Bool.{false};
 ghost use Rattle.image.specs.Image.{slotLength, wireSlot, wireCode, tagOf, HasSlot};
 ghost use Rattle.table.specs.Header.{HeaderOk};
 ghost use Rattle.table.specs.Chain.{chainOf, HoldsPositions, Holds};
-ghost use Rattle.table.specs.Record.{kindOk, wireOk, abortOk, tagAmong, recordCheck, recordsCheck};
+ghost use Rattle.table.specs.Record.{kindOk, noWire, wireOk, abortOk, tagAmong, recordCheck, recordsCheck};
 ghost use Rattle.table.specs.Marks.{markCount, markIndex};
 use crate::chain::on_chain;
 use crate::place::Place;
@@ -19,44 +19,54 @@ use image::MOST_SLOTS;
 use image::START_WIRE_OFFSET;
 use image::ZERO_OFFSET;
 use image::slot_byte;
+use image::slot_start;
 
-// One of the fourteen kinds, and bytes 6 and 7 zero.
+// One of the fourteen kinds, and bytes 6 and 7 zero, as one number.
 fn kind_ok(image: &[u8], slot: u8) -> bool
     requires { ⌜ HasSlot (now image) slot ⌝ }
     ensures { λ r. ⌜ r ≡ kindOk (now (image .entry)) slot ⌝ }
 {
     let kind = slot_byte(image, slot, KIND_OFFSET);
-    kind::is_kind(kind)
-        & (slot_byte(image, slot, ZERO_OFFSET) == 0)
-        & (slot_byte(image, slot, ZERO_OFFSET + 1) == 0)
+    kind::is_kind(kind) & (words::u16_at(image, slot_start(slot) + ZERO_OFFSET) == 0)
 }
 
-// A wire from the frame with code 0, or from a slot on the chain with a code of bits 0, 1 and 7.
+// Whether a wire's two bytes are zero, as one number: the input is the frame's bit.
+fn no_wire(image: &[u8], slot: u8, wire: usize) -> bool
+    requires { ⌜ HasSlot (now image) slot ⌝ }
+    requires { ⌜ wire + 1 < slotLength ⌝ }
+    ensures { λ r. ⌜ r ≡ noWire (wireSlot (now (image .entry)) slot wire) (wireCode (now (image .entry)) slot wire) ⌝ }
+{
+    words::u16_at(image, slot_start(slot) + wire) == 0
+}
+
+// No wire, or one from a slot on the chain with a code of bits 0, 1 and 7. Slot 0 is on no chain.
 fn wire_ok(image: &[u8], positions: &[u8; MOST_SLOTS + 1], slot: u8, wire: usize) -> bool
     requires { ⌜ HasSlot (now image) slot ⌝ }
     requires { ⌜ wire + 1 < slotLength ⌝ }
     requires { ⌜ HoldsPositions (chainOf (now image)) (now positions) ⌝ }
     ensures { λ r. ⌜ r ≡ wireOk (chainOf (now (image .entry))) (wireSlot (now (image .entry)) slot wire) (wireCode (now (image .entry)) slot wire) ⌝ }
 {
+    if no_wire(image, slot, wire) {
+        return true;
+    }
     let source = slot_byte(image, slot, wire);
     let code = slot_byte(image, slot, wire + 1);
-    if source == 0 {
-        return code == 0;
-    }
     on_chain(positions, source) & (code % 128 < 4)
 }
 
-// An abort wire as it should be, and none on a kind without abort.
+// No abort wire, or one as it should be on a kind with abort.
 fn abort_ok(image: &[u8], positions: &[u8; MOST_SLOTS + 1], slot: u8) -> bool
     requires { ⌜ HasSlot (now image) slot ⌝ }
     requires { ⌜ HoldsPositions (chainOf (now image)) (now positions) ⌝ }
     ensures { λ r. ⌜ r ≡ abortOk (now (image .entry)) (chainOf (now (image .entry))) slot ⌝ }
 {
-    if kind::has_abort(slot_byte(image, slot, KIND_OFFSET)) {
-        return wire_ok(image, positions, slot, ABORT_WIRE_OFFSET);
+    if no_wire(image, slot, ABORT_WIRE_OFFSET) {
+        return true;
     }
-    (slot_byte(image, slot, ABORT_WIRE_OFFSET) == 0)
-        & (slot_byte(image, slot, ABORT_WIRE_OFFSET + 1) == 0)
+    if !kind::has_abort(slot_byte(image, slot, KIND_OFFSET)) {
+        return false;
+    }
+    wire_ok(image, positions, slot, ABORT_WIRE_OFFSET)
 }
 
 // Checks 7 to 10 of one record; `repeated`: its tag is that of an earlier block.

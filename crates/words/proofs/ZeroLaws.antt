@@ -53,6 +53,10 @@ zero-split v w i s =
 pub zero-last : (v w i : ℕ) (s : List ℕ) → zeroAt (v + w) s i ≡ zeroAt v s i && eqb (numberAt w s (i + v)) 0
 zero-last v w i s = zero-split v w i s ∙ ap (λ (b : Bool). zeroAt v s i && b) (zero-at w (i + v) s)
 
+-- two bytes, as one number
+pub zero-pair : (i : ℕ) (s : List ℕ) → i + 1 < length s → eqb (numberAt 2 s i) 0 ≡ (eqb (getD s i 0) 0 && eqb (getD s (i + 1) 0) 0)
+zero-pair i s h = sym (zero-at 2 i s) ∙ zero-split 1 1 i s ∙ rw (zero-byte i s (omega arith), zero-byte (i + 1) s h)
+
 -- as a list
 pub zero-bytes : (t : List ℕ) → allZero t ≡ true → t ≡ replicate (length t) 0
 zero-bytes t h = number-zero t (eqb-true (number t) 0 (sym (zero-number t) ∙ h))

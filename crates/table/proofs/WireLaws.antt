@@ -1,0 +1,44 @@
+-- Laws of a wire that is there, and of one that is not: two bytes of a slot as one number, and slot 0 on no chain. For the proofs of record::kind_ok,
+-- no_wire, wire_ok and abort_ok.
+use Prim.Native.Nat.{ℕ, _+_, _%_, _<_}
+use mathlib.Core.Path.{_≡_, sym, _∙_}
+use mathlib.Core.List.{List}
+use mathlib.Core.Bool.{true, false, _&&_}
+use native.Mathlib.Omega.{arith}
+use borrow.Author.Tests.{eqb-true}
+use lib.Dec.{ltb, eqb}
+use Rattle.membership.specs.Membership.{among}
+use Rattle.membership.proofs.Logic.{by-test, and-left, and-right}
+use Rattle.membership.proofs.AmongLaws.{all-among}
+use Rattle.words.specs.Word.{numberAt}
+use Rattle.words.proofs.ZeroLaws.{zero-pair}
+use Rattle.image.specs.Image.{slotLength, slotCount, slotStart, slotByte, HasSlot}
+use Rattle.table.specs.Chain.{chainOf}
+use Rattle.table.specs.Record.{noWire, wireOk}
+use Rattle.table.proofs.ChainLaws.{chain-in}
+
+-- two bytes of a slot are zero where their number is
+pub zero-two : (image : List ℕ) (slot b : ℕ) → HasSlot image slot → b + 1 < slotLength
+    → eqb (numberAt 2 image (slotStart slot + b)) 0 ≡ (eqb (slotByte image slot b) 0 && eqb (slotByte image slot (b + 1)) 0)
+zero-two image slot b h l =
+    let e : slotStart slot + b + 1 ≡ slotStart slot + (b + 1) = omega arith in
+    rw e at (zero-pair (slotStart slot + b) image (omega (arith, h)))
+
+-- no chain has slot 0
+zero-off-chain : (image : List ℕ) → among 0 (chainOf image) ≡ false
+zero-off-chain image =
+    by-test (among 0 (chainOf image)) (λ m. absurd (omega (arith, all-among (slotCount image) (chainOf image) 0 (chain-in image) m .0))) (λ m. m)
+
+-- no wire is as it should be
+pub wire-none : (chain : List ℕ) (slot code : ℕ) → noWire slot code ≡ true → wireOk chain slot code ≡ true
+wire-none chain slot code h = simp (and-left (eqb slot 0) (eqb code 0) h) (and-right (eqb slot 0) (eqb code 0) h)
+
+-- any other is, where its slot is on the chain and its code has no other bits
+pub wire-some : (image : List ℕ) (slot code : ℕ) → noWire slot code ≡ false
+    → (among slot (chainOf image) && ltb (code % 128) 4) ≡ wireOk (chainOf image) slot code
+wire-some image slot code h =
+    by-test (eqb slot 0)
+    (λ z. let q : slot ≡ 0 = eqb-true slot 0 z in
+    let c : eqb code 0 ≡ false = simp z at h in
+    simp (z, c) (rw (q, zero-off-chain image)))
+    (λ z. simp z)
