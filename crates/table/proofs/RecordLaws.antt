@@ -123,7 +123,7 @@ recording-end image marks i r l =
     let o : recordsFrom image (chainOf image) (take i (chainOf image)) (drop i (chainOf image)) ≡ Passed = rw (q, drop-length) in
     sym o ∙ r .onward
 
--- one turn: the slot, the place of its mark, whether its tag is repeated, and the verdict, as the code has them
+-- one turn: the slot, the place of its mark, and the verdict, as the code has them
 module _ (image marks : List ℕ) (i : ℕ) (hd : HeaderOk image) (by : Bytes image) (r : Recording image marks i) (l : i < length (chainOf image))
     (slot place : ℕ) (slot-is : slot ≡ getD (chainOf image) i 0) (place-is : place ≡ markOf image slot) where
   pub not-marked : HasSlot image slot → getD marks place 0 ≡ 0 → tagAmong image (tagOf image slot) (take i (chainOf image)) ≡ false
@@ -131,8 +131,7 @@ module _ (image marks : List ℕ) (i : ℕ) (hd : HeaderOk image) (by : Bytes im
       let y : getD marks (markOf image slot) 0 ≡ 0 = rw place-is at z in
       unmarked image marks hd by slot has (take i (chainOf image)) (all-take (slotCount image) (chainOf image) i (chain-in image)) (r .marked) y
 
-  module _ (repeated : Bool) (v : Verdict) (repeated-is : repeated ≡ tagAmong image (tagOf image slot) (take i (chainOf image)))
-      (v-is : v ≡ recordCheck image (chainOf image) repeated slot) where
+  module _ (v : Verdict) (v-is : v ≡ recordCheck image (chainOf image) (tagAmong image (tagOf image slot) (take i (chainOf image))) slot) where
     record-is : v ≡ recordCheck image (chainOf image) (tagAmong image (tagOf image (getD (chainOf image) i 0)) (take i (chainOf image))) (getD (chainOf image) i 0)
     record-is = cc
 

@@ -69,30 +69,6 @@ fn abort_ok(image: &[u8], positions: &[u8; MOST_SLOTS + 1], slot: u8) -> bool
     wire_ok(image, positions, slot, ABORT_WIRE_OFFSET)
 }
 
-// Checks 7 to 10 of one record; `repeated`: its tag is that of an earlier block.
-fn check_record(image: &[u8], positions: &[u8; MOST_SLOTS + 1], repeated: bool, slot: u8) -> Verdict
-    requires { ⌜ HasSlot (now image) slot ⌝ }
-    requires { ⌜ HoldsPositions (chainOf (now image)) (now positions) ⌝ }
-    ensures { λ r. ⌜ r ≡ recordCheck (now (image .entry)) (chainOf (now (image .entry))) repeated slot ⌝ }
-{
-    if !kind_ok(image, slot) {
-        return Verdict::Failed(7, Place::Slot(slot));
-    }
-    if !slot_tag_form(image, slot) {
-        return Verdict::Failed(8, Place::Slot(slot));
-    }
-    if repeated {
-        return Verdict::Failed(9, Place::Slot(slot));
-    }
-    if !wire_ok(image, positions, slot, START_WIRE_OFFSET) {
-        return Verdict::Failed(10, Place::Slot(slot));
-    }
-    if !abort_ok(image, positions, slot) {
-        return Verdict::Failed(10, Place::Slot(slot));
-    }
-    Verdict::Passed
-}
-
 // The places for marks, and the constants of the hash that chooses one: specs/Marks.antt says what they are.
 const MARKS: usize = 128;
 
@@ -136,7 +112,7 @@ fn is_among(
     found
 }
 
-// The same, where no mark of the tag's place says that it is not.
+// The same, where a mark of 0 says that it is not.
 fn is_repeated(
     image: &[u8],
     slots: &[u8; MOST_SLOTS],
@@ -157,6 +133,41 @@ fn is_repeated(
     is_among(image, slots, positions, count, n, slot)
 }
 
+// Checks 7 to 10 of the record of block i. A mark of 0 in its tag's place says that no earlier block has its tag.
+fn check_record(
+    image: &[u8],
+    slots: &[u8; MOST_SLOTS],
+    positions: &[u8; MOST_SLOTS + 1],
+    count: usize,
+    i: usize,
+    slot: u8,
+    mark: u8,
+) -> Verdict
+    requires { ⌜ HeaderOk (now image) × HasSlot (now image) slot × (i ≤ count) ⌝ }
+    requires { ⌜ Holds (chainOf (now image)) count (now slots) (now positions) ⌝ }
+    requires { ⌜ (mark ≡ 0 → tagAmong (now image) (tagOf (now image) slot) (take i (chainOf (now image))) ≡ false) ⌝ }
+    ensures { λ r. ⌜ r
+        ≡ recordCheck (now (image .entry)) (chainOf (now (image .entry)))
+        (tagAmong (now (image .entry)) (tagOf (now (image .entry)) slot) (take i (chainOf (now (image .entry))))) slot ⌝ }
+{
+    if !kind_ok(image, slot) {
+        return Verdict::Failed(7, Place::Slot(slot));
+    }
+    if !slot_tag_form(image, slot) {
+        return Verdict::Failed(8, Place::Slot(slot));
+    }
+    if is_repeated(image, slots, positions, count, i, slot, mark) {
+        return Verdict::Failed(9, Place::Slot(slot));
+    }
+    if !wire_ok(image, positions, slot, START_WIRE_OFFSET) {
+        return Verdict::Failed(10, Place::Slot(slot));
+    }
+    if !abort_ok(image, positions, slot) {
+        return Verdict::Failed(10, Place::Slot(slot));
+    }
+    Verdict::Passed
+}
+
 // Checks 7 to 10 of every record, each through all four before the next. A tag that was met has a mark in its place.
 pub fn check_records(
     image: &[u8],
@@ -173,8 +184,7 @@ pub fn check_records(
     while i < count {
         let slot = slots[i];
         let place = mark_index(tag_number(image, slot));
-        let repeated = is_repeated(image, slots, positions, count, i, slot, marks[place]);
-        let verdict = check_record(image, positions, repeated, slot);
+        let verdict = check_record(image, slots, positions, count, i, slot, marks[place]);
         let Verdict::Passed = verdict else {
             return verdict;
         };

@@ -42,7 +42,7 @@ abbrev turn : tie.After-mark-index Inv-loop μ-loop → tie.In-loop Inv-loop μ-
 turn p = p .before .before .before
 
 abbrev marked : tie.After-check-record Inv-loop μ-loop → tie.After-mark-index Inv-loop μ-loop
-marked p = p .before .before
+marked p = p .before
 
 -- the record of a turn
 module _ (t : tie.In-loop Inv-loop μ-loop) where
@@ -72,21 +72,16 @@ tag-number-requires c κs = has (c .before)
 mark-index-requires : tie.Need-mark-index-requires Inv-loop μ-loop
 mark-index-requires c κs = search needs
 
-array-read-is-repeated : tie.Need-array-read-is-repeated Inv-loop μ-loop
-array-read-is-repeated c = omega (arith, c .mark-index .ensures .1, turn c .before .loop .inv .sized)
+array-read-check-record : tie.Need-array-read-check-record Inv-loop μ-loop
+array-read-check-record c = omega (arith, c .mark-index .ensures .1, turn c .before .loop .inv .sized)
 
-is-repeated-requires : tie.Need-is-repeated-requires Inv-loop μ-loop
-is-repeated-requires c κs =
+check-record-requires : tie.Need-check-record-requires Inv-loop μ-loop
+check-record-requires c κs =
     let t = turn c in
     let p = t .before in (
       (header-ok p, has t, omega (arith, t .loop-test .taken)),
       (entry p .pre .1, not-marked (image p) (p .loop .marks) (p .loop .i) (header-ok p) (bytes p) (p .loop .inv) (in-chain t) _ _ (its-slot t) (its-mark c) (has t)),
     )
-
-check-record-requires : tie.Need-check-record-requires Inv-loop μ-loop
-check-record-requires c κs =
-    let t = turn (c .before) in
-    (has t, entry (t .before) .pre .1 .places)
 
 enum-told : tie.Need-enum-told Inv-loop μ-loop
 enum-told c = search needs
@@ -100,8 +95,8 @@ returns c =
     let m = marked r in
     let t = turn m in
     let p = t .before in
-    recording-failed (image p) (p .loop .marks) (p .loop .i) (header-ok p) (bytes p) (p .loop .inv) (in-chain t) _ _ (its-slot t) (its-mark m) _ _
-    (r .before .is-repeated .ensures) (r .check-record .ensures) _ _ (c .enum-told2 .given .1)
+    recording-failed (image p) (p .loop .marks) (p .loop .i) (header-ok p) (bytes p) (p .loop .inv) (in-chain t) _ _ (its-slot t) (its-mark m) _
+    (r .check-record .ensures) _ _ (c .enum-told2 .given .1)
 
 array-write-marks : tie.Need-array-write-marks Inv-loop μ-loop
 array-write-marks c =
@@ -122,8 +117,8 @@ loop-again c =
     let m = marked r in
     let t = turn m in
     let p = t .before in
-    recording-on (image p) (p .loop .marks) (p .loop .i) (header-ok p) (bytes p) (p .loop .inv) (in-chain t) _ _ (its-slot t) (its-mark m) _ _
-    (r .before .is-repeated .ensures) (r .check-record .ensures) (m .mark-index .ensures .1) (c .enum-told .given .1)
+    recording-on (image p) (p .loop .marks) (p .loop .i) (header-ok p) (bytes p) (p .loop .inv) (in-chain t) _ _ (its-slot t) (its-mark m) _
+    (r .check-record .ensures) (m .mark-index .ensures .1) (c .enum-told .given .1)
 
 returns-2 : tie.Need-returns-2 Inv-loop μ-loop
 returns-2 c =
@@ -140,8 +135,7 @@ check-records-spec =
     element-copy-out-slot
     tag-number-requires
     mark-index-requires
-    array-read-is-repeated
-    is-repeated-requires
+    array-read-check-record
     check-record-requires
     enum-told
     enum-told-2
