@@ -27,16 +27,17 @@ fn zeroed(r: Record) -> bool
 }
 
 // Elapsed within its bound, and a stored time only on the kinds that take it.
-fn times_sound(kind: u8, r: Record) -> bool
+pub fn times_sound(kind: u8, r: Record) -> bool
     ensures { λ b. ⌜ b ≡ timesSound kind r ⌝ }
 {
-    let elapsed = r.timer.elapsed <= Timer::MOST;
+    if Timer::MOST < r.timer.elapsed {
+        return false;
+    }
     if (r.limit == 0) & (r.timeout == 0) {
-        return elapsed;
+        return true;
     }
     let edge = kind::is_edge(kind);
-    elapsed
-        & ((r.limit == 0) | (edge & kind::has_time_limit(kind)))
+    ((r.limit == 0) | (edge & kind::has_time_limit(kind)))
         & ((r.timeout == 0) | (edge & kind::has_time_out(kind)))
 }
 

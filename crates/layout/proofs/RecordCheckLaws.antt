@@ -1,23 +1,24 @@
 -- Check 21 on the bytes of a record, with several bytes tested as one number. For `sound_bytes` and the functions that it calls, and for the engine: a sound
 -- Dormant record is all zero.
-use Prim.Native.Nat.{ℕ, _≤_, _<_}
+use Prim.Native.Nat.{ℕ, _+_, _≤_, _<_}
 use mathlib.Core.Path.{_≡_, refl, ap, sym, _∙_}
-use mathlib.Core.Bool.{Bool, true, false, _&&_}
+use mathlib.Core.Bool.{Bool, true, false, not, _&&_}
 use mathlib.Core.List.{List, [], _∷_}
 use native.Mathlib.Omega.{arith}
 use lib.Dec.{eqb, ltb, leb}
 use lib.ListN.{length, take, replicate}
 use lib.Seq.{take-all}
 use borrow.Author.Tests.{eqb-true, eqb-false, eq-eqb}
-use Rattle.words.specs.Word.{numberAt, allZero, zeroAt}
+use Rattle.words.specs.Word.{Bytes, numberAt, allZero, zeroAt}
+use Rattle.words.proofs.WordLaws.{number-one, number-split}
 use Rattle.words.proofs.ZeroLaws.{zero-at, zero-is, is-zero, zero-byte, zero-split, zero-last, zero-bytes}
-use Rattle.membership.proofs.Logic.{same, and-join}
-use Rattle.block.specs.Record.{Dormant, freshRecord}
-use Rattle.block.specs.Sound.{zeroed, flagsFit, codeSound, requestSound, stepSound, timesSound, sound}
+use Rattle.membership.proofs.Logic.{same, not-both, and-join}
+use Rattle.block.specs.Record.{Dormant, Executing, freshRecord}
+use Rattle.block.specs.Sound.{busyOnly, zeroed, flagsFit, codeSound, requestSound, stepSound, timesSound, sound}
 use Rattle.block.specs.declared.record.Record.{Record}
 use Rattle.block.proofs.Tests.{ands, each}
 use Rattle.block.proofs.Shapes.{fresh-is}
-use Rattle.block.proofs.SoundSteps.{at-step, at-dormant}
+use Rattle.block.proofs.SoundSteps.{at-step, at-dormant, at-executing}
 use Rattle.layout.specs.Buffer.{recordLength, jobWidth, byteAt}
 use Rattle.layout.specs.RecordLayout.{flagsByte, decodeFlags, recordOffset, decodeRecord, recordForm, soundBytes}
 use Rattle.layout.proofs.BitLaws.{flags-back}
@@ -157,3 +158,66 @@ module _ (s : List ℕ) (l : recordLength ≤ length s) where
     dormant-zeros full h =
         let all : take recordLength s ≡ s = take-all recordLength s (omega arith) in
         zero-bytes s (ap allZero (sym all) ∙ sound-zero h) ∙ ap (λ (n : ℕ). replicate n 0) full
+
+-- "Executing ... busy only": the first eight bytes as one number, then the code with the unnamed pair after it, and the times
+module _ (s : List ℕ) (l : recordLength ≤ length s) (b : Bytes s) (k : ℕ) (head : numberAt 8 s (recordOffset .step) ≡ Executing + 256) where
+  -- the bytes that have this number
+  record Head : Type 0 where
+    step : byteAt s (recordOffset .step) ≡ Executing
+    flags : byteAt s (recordOffset .flags) ≡ 1
+    request : byteAt s (recordOffset .request) ≡ 0
+    unnamed : byteAt s (recordOffset .unnamed) ≡ 0
+    quad : numberAt 4 s (recordOffset .unnamedQuad) ≡ 0
+
+  head-bytes : Head
+  head-bytes =
+      let one = number-one s (recordOffset .step) (omega arith) in
+      let two = number-one s (recordOffset .flags) (omega arith) in
+      let three = number-one s (recordOffset .request) (omega arith) in
+      let four = number-one s (recordOffset .unnamed) (omega arith) in
+      let first = number-split 1 7 s (recordOffset .step) (omega arith) in
+      let second = number-split 1 6 s (recordOffset .flags) (omega arith) in
+      let third = number-split 1 5 s (recordOffset .request) (omega arith) in
+      let fourth = number-split 1 4 s (recordOffset .unnamed) (omega arith) in
+      let after-first : numberAt 7 s (recordOffset .flags) ≡ 1 = omega (arith, head, first, one, b (recordOffset .step)) in
+      let after-second : numberAt 6 s (recordOffset .request) ≡ 0 = omega (arith, after-first, second, two, b (recordOffset .flags)) in
+      let after-third : numberAt 5 s (recordOffset .unnamed) ≡ 0 = omega (arith, after-second, third) in
+      record {
+        step = omega (arith, head, first, one, after-first);
+        flags = omega (arith, after-first, second, two, after-second);
+        request = omega (arith, after-second, third, three);
+        unnamed = omega (arith, after-third, fourth, four);
+        quad = omega (arith, after-third, fourth);
+      }
+
+  -- what of soundness is left
+  fields-left : sound k (decodeRecord s) ≡ eqb (numberAt 2 s (recordOffset .code)) 0 && timesSound k (decodeRecord s)
+  unfolding decodeRecord
+  fields-left =
+      let r = decodeRecord s in
+      let busy : busyOnly (r .flags) ≡ true = ap (λ (x : ℕ). busyOnly (decodeFlags x)) (head-bytes .flags) in
+      let unasked : r .request ≡ false = ap (λ (x : ℕ). eqb x 1) (head-bytes .request) in
+      at-step k r Executing (head-bytes .step) ∙ at-executing k r ∙ left (busyOnly (r .flags)) (eqb (r .code) 0) (r .request) (timesSound k r) busy unasked
+    where
+      left : (busy code request times : Bool) → busy ≡ true → request ≡ false → busy && code && not request && times ≡ code && times
+      left true true request times p q = rw q
+      left true false request times p q = refl
+      left false code request times p q = not-both false p refl
+
+  form-left : recordForm s ≡ zeroAt 2 s (recordOffset .unnamedPair)
+  unfolding recordForm
+  form-left = rw (head-bytes .flags, head-bytes .request, head-bytes .unnamed, is-zero 4 (recordOffset .unnamedQuad) s (head-bytes .quad))
+
+  pub executing-tests : eqb (numberAt 4 s (recordOffset .code)) 0 && timesSound k (decodeRecord s) ≡ soundBytes k s
+  unfolding soundBytes
+  executing-tests =
+      let code = zeroAt 2 s (recordOffset .code) in
+      let both : eqb (numberAt 4 s (recordOffset .code)) 0 ≡ code && zeroAt 2 s (recordOffset .unnamedPair) =
+      sym (zero-at 4 (recordOffset .code) s) ∙ zero-split 2 2 (recordOffset .code) s in
+      rw (form-left, fields-left, both, ← zero-at 2 (recordOffset .code) s) (turned code (zeroAt 2 s (recordOffset .unnamedPair)) (timesSound k (decodeRecord s)))
+    where
+      turned : (code pair times : Bool) → code && pair && times ≡ pair && (code && times)
+      turned true true times = refl
+      turned true false times = refl
+      turned false true times = refl
+      turned false false times = refl

@@ -158,13 +158,20 @@ fn record_zero(s: &[u8]) -> bool
         & (words::u64_at(s, JOB_OFFSET) == 0)
 }
 
-// Check 21 of one record: Dormant is all zero; else the form, then the fields.
+// The first eight bytes of a record at Executing, as one number: the step, of the flags busy alone, no request, no unnamed byte set.
+const EXECUTING_HEAD: u64 = Record::EXECUTING as u64 + 256;
+
+// Check 21 of one record: Dormant is all zero; Executing has that head, then no code and its times; else the form, then the fields.
 pub fn sound_bytes(kind: u8, s: &[u8]) -> bool
     requires { ⌜ recordLength ≤ length (now s) ⌝ }
     ensures { λ r. ⌜ r ≡ soundBytes kind (now (s .entry)) ⌝ }
 {
     if s[STEP_OFFSET] == Record::DORMANT {
         return record_zero(s);
+    }
+    if words::u64_at(s, STEP_OFFSET) == EXECUTING_HEAD {
+        return (words::u32_at(s, CODE_OFFSET) == 0)
+            & block::sound::times_sound(kind, decode_record(s));
     }
     if !record_form(s) {
         return false;
