@@ -5,6 +5,7 @@ pub mod ChainLaws
 pub mod TagLaws
 pub mod TagFormLaws
 pub mod WireLaws
+pub mod TagNumberLaws
 pub mod RecordLaws
 pub mod SpareLaws
 pub mod CheckLaws

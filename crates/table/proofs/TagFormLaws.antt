@@ -15,7 +15,7 @@ use Rattle.table.specs.Tag.{tagChar, spaces, padded, tagForm, FormMeans,
 use Rattle.table.proofs.TagLaws.{form-first, form-eight}
 
 -- a space is a tag character in no place
-space-is-none : (place : ℕ) → tagChar place 0x20 ≡ false
+pub space-is-none : (place : ℕ) → tagChar place 0x20 ≡ false
 unfolding tagChar
 space-is-none place = refl
 

@@ -1,39 +1,19 @@
--- Laws of tags: the form by an index, for the loops of tag::spaces_from and tag::tag_form; tags compared by their numbers, for the
--- record checks and for find. Only here is `tagForm` taken apart, and `tagChar` only in tag::tag_char's proof and in one law of TagFormLaws; what
--- is computed unfolds both.
-use Prim.Native.Nat.{ℕ, _+_, _≤_, _<_}
+-- Laws of tags: the form by its length and its first byte; tags compared by their numbers, for the record checks and for find. Only here is `tagForm`
+-- taken apart, and `tagChar` only in the laws of single bytes of TagFormLaws and TagNumberLaws; what is computed unfolds both.
+use Prim.Native.Nat.{ℕ, _+_, _≤_}
 use mathlib.Core.Path.{_≡_, refl, ap, sym}
 use mathlib.Core.List.{List, [], _∷_}
-use mathlib.Core.Bool.{true, false, cond, _&&_}
+use mathlib.Core.Bool.{true, false, _&&_}
 use native.Mathlib.Omega.{arith}
-use native.Mathlib.Numerals.{add-one}
 use borrow.Author.Tests.{eq-eqb, ne-eqb, eqb-true, eqb-false, ltb-true, ltb-false}
 use lib.Dec.{ltb, eqb}
 use lib.ListN.{length, getD, drop, length-take, length-drop, List·getD-eq-default}
-use lib.Seq.{drop-cons, drop-length, getD-take, getD-drop, length-take-le}
+use lib.Seq.{getD-take, getD-drop, length-take-le}
 use Rattle.words.specs.Word.{Bytes, number}
 use Rattle.words.proofs.WordLaws.{number-injective}
 use Rattle.image.specs.Image.{slotStart, tagOffset, tagLength, tagOf, HasSlot}
-use Rattle.table.specs.Tag.{tagChar, spaces, padded, tagText, tagForm, sameBytes}
+use Rattle.table.specs.Tag.{tagChar, padded, tagText, tagForm, sameBytes}
 use Rattle.membership.proofs.Logic.{by-test, not-both, and-left}
-
--- from an index on
-module _ (t : List ℕ) (i : ℕ) where
-  pub spaces-at : i < length t → spaces (drop i t) ≡ (eqb (getD t i 0) 0x20 && spaces (drop (i + 1) t))
-  unfolding spaces
-  spaces-at h = rw (add-one, drop-cons t i 0)
-
-  pub padded-at : i < length t → padded i (drop i t) ≡ cond (tagChar i (getD t i 0)) (padded (i + 1) (drop (i + 1) t)) (spaces (drop i t))
-  unfolding padded
-  padded-at h = rw (add-one, drop-cons t i 0)
-
-  pub spaces-past : i ≡ length t → spaces (drop i t) ≡ true
-  unfolding spaces
-  spaces-past h = rw (h, drop-length)
-
-  pub padded-past : i ≡ length t → padded i (drop i t) ≡ true
-  unfolding padded
-  padded-past h = rw (h, drop-length)
 
 -- the form of eight bytes, by the first one
 pub form-first : (t : List ℕ) → length t ≡ tagLength → tagForm t ≡ (tagChar 0 (getD t 0 0) && padded 1 (drop 1 t))

@@ -1,34 +1,45 @@
 // Tags: one or more of A-Z, 0-9 and, except first, the underscore, then spaces to eight bytes.
 ghost use mathlib.Core.Path.{_≡_};
-ghost use Prim.Native.Nat.{_≤_};
-ghost use lib.ListN.{length, drop};
-ghost use Rattle.words.specs.Word.{number};
-ghost use Rattle.image.specs.Image.{tagOf, HasSlot};
-ghost use Rattle.table.specs.Tag.{tagChar, spaces, tagForm};
+ghost use Prim.Native.Nat.{_+_, _-_, _*_, _≤_};
+ghost use lib.Bits.{bitXor};
+ghost use Rattle.words.specs.Word.{number, bytes};
+ghost use Rattle.image.specs.Image.{tagLength, tagOf, HasSlot};
+ghost use Rattle.table.specs.Tag.{tagForm};
 use image::TAG_LENGTH;
 use image::TAG_OFFSET;
 use image::slot_start;
 
-// A-Z, 0-9 and, except in the first place, the underscore.
-fn tag_char(place: usize, b: u8) -> bool
-    ensures { λ r. ⌜ r ≡ tagChar place b ⌝ }
+// Bit 7 of each of the eight bytes of a number.
+const HIGH: u64 = 0x8080808080808080;
+
+// One in every byte.
+const EVERY: u64 = 0x0101010101010101;
+
+// One in every byte but the first.
+const LATER: u64 = 0x0101010101010100;
+
+// For x with all bytes below 128: bit 7 of each byte that has a one in `bytes` is set exactly where least <= byte <= most; bit 7 of the others is 0.
+fn within(x: u64, bytes: u64, least: u8, most: u8) -> u64
+    requires { ⌜ (x ≤ 0x7F7F7F7F7F7F7F7F) × (bytes ≤ 0x0101010101010101) × (least ≤ 128) × (most ≤ 127) ⌝ }
+    ensures { λ r. ⌜ r ≡ bitXor (x + (128 - least) * bytes) (x + (127 - most) * bytes) ⌝ }
 {
-    ((b'A' <= b) & (b <= b'Z')) | ((b'0' <= b) & (b <= b'9')) | ((b == b'_') & (0 < place))
+    (x + (128 - least as u64) * bytes) ^ (x + (127 - most as u64) * bytes)
 }
 
-// Whether all bytes from an index on are spaces.
-fn spaces_from(tag: &[u8], from: usize) -> bool
-    requires { ⌜ from ≤ length (now tag) ⌝ }
-    ensures { λ r. ⌜ r ≡ spaces (drop from (now (tag .entry))) ⌝ }
+// Whether the eight bytes of a number, the first one lowest, are in tag form, all bytes at once: the first is a letter or a digit, each other one a
+// character or a space, and no character comes right after a space.
+fn number_form(x: u64) -> bool
+    ensures { λ r. ⌜ r ≡ tagForm (bytes tagLength x) ⌝ }
 {
-    let mut i = from;
-    while i < tag.len() {
-        if tag[i] != 0x20 {
-            return false;
-        }
-        i += 1;
+    if (x & HIGH) != 0 {
+        return false;
     }
-    true
+    let letters = within(x, EVERY, b'A', b'Z');
+    let digits = within(x, EVERY, b'0', b'9');
+    let underscores = within(x, LATER, b'_', b'_');
+    let spaces = within(x, LATER, b' ', b' ');
+    let characters = letters | digits | underscores;
+    (((characters | spaces) & HIGH) == HIGH) & (((characters >> 8) & spaces & HIGH) == 0)
 }
 
 // Eight bytes in tag form.
@@ -38,17 +49,7 @@ pub fn tag_form(tag: &[u8]) -> bool
     if tag.len() != TAG_LENGTH {
         return false;
     }
-    if !tag_char(0, tag[0]) {
-        return false;
-    }
-    let mut i = 1;
-    while i < tag.len() {
-        if !tag_char(i, tag[i]) {
-            return spaces_from(tag, i);
-        }
-        i += 1;
-    }
-    true
+    number_form(words::u64_at(tag, 0))
 }
 
 // Whether a slot's tag is in form.
@@ -56,9 +57,7 @@ pub fn slot_tag_form(image: &[u8], slot: u8) -> bool
     requires { ⌜ HasSlot (now image) slot ⌝ }
     ensures { λ r. ⌜ r ≡ tagForm (tagOf (now (image .entry)) slot) ⌝ }
 {
-    let start = slot_start(slot) + TAG_OFFSET;
-    let end = start + TAG_LENGTH;
-    tag_form(&image[start..end])
+    number_form(tag_number(image, slot))
 }
 
 // A slot's tag as one number: two tags are the same where their numbers are.

@@ -1,48 +1,27 @@
--- `tag::slot_tag_form` meets its contract: the part is the slot's tag.
-use Prim.Native.Nat.{_+_, _-_}
-use mathlib.Core.Path.{_≡_}
-use native.Mathlib.Omega.{arith}
+-- `tag::slot_tag_form` meets its contract: the slot's tag by its number.
+use Prim.Native.Nat.{ℕ}
+use mathlib.Core.List.{List}
 use borrow.Author.Needs.{needs}
-use Rattle.image.specs.Image.{tagOffset, tagLength}
+use Rattle.table.proofs.TagLaws.{tag-length, tag-bytes}
+use Rattle.table.proofs.TagNumberLaws.{form-number}
+use Rattle.image.specs.Image.{tagOf}
 use Rattle.table.proofs.tag.slot_tag_form.Statement.{statement}
 use Rattle.table.proofs.tag.slot_tag_form.Tie as tie
 
-slot-start-requires : tie.Need-slot-start-requires
-slot-start-requires c κs = search needs
+tag-number-requires : tie.Need-tag-number-requires
+tag-number-requires c κs = search needs
 
-add-start : tie.Need-add-start
-add-start c = search needs
-
-add-end : tie.Need-add-end
-add-end c = search needs
-
-sub-tag-form : tie.Need-sub-tag-form
-sub-tag-form c = search needs
-
-part-tag-form-start : tie.Need-part-tag-form-start
-part-tag-form-start c = search needs
-
-part-tag-form-end : tie.Need-part-tag-form-end
-part-tag-form-end c = search needs
-
-tag-form-requires : tie.Need-tag-form-requires
-tag-form-requires c κs = search needs
+number-form-requires : tie.Need-number-form-requires
+number-form-requires c κs = search needs
 
 returns : tie.Need-returns
 returns c =
-    let a = c .before .before .before .before .args in
-    let e : (c .before .before .slot-start .result + tagOffset + tagLength) - (c .before .before .slot-start .result + tagOffset) ≡ tagLength = omega arith in
-    rw (← c .before .before .slot-start .ensures) (rw e at (c .tag-form .ensures))
+    let bytes = c .before .before in
+    let start = bytes .before in
+    let image : List ℕ = start .args .image .now in
+    let slot : ℕ = start .args .slot in
+    form-number (tagOf image slot) (tag-length image slot (start .pre)) (tag-bytes image slot (λ i. bytes .shared-slice-known .given i .fits))
+    (c .number-form .result) (c .before .tag-number .result) (c .number-form .ensures) (c .before .tag-number .ensures)
 
 pub slot-tag-form-spec : {M : Type 1} → statement M
-slot-tag-form-spec =
-    tie.close
-    (tie.spec
-    slot-start-requires
-    add-start
-    add-end
-    sub-tag-form
-    part-tag-form-start
-    part-tag-form-end
-    tag-form-requires
-    returns)
+slot-tag-form-spec = tie.close (tie.spec tag-number-requires number-form-requires returns)
