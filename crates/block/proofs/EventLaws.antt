@@ -15,13 +15,14 @@ use Rattle.block.specs.Rules.{pass}
 use Rattle.block.specs.Call.{Outcome, Call, stops, goes}
 use Rattle.block.specs.Turns.{admits, hasStart, Turns, end, start, finish, StartsHave, nothing, one}
 use Rattle.block.specs.BlockInvariant.{openJob}
+use Rattle.block.specs.Phases.{rank}
 use Rattle.block.specs.declared.record.Record.{Record}
 use Rattle.block.specs.declared.event.Event.{Event}
 use Rattle.block.specs.declared.entry.Inputs.{Inputs}
 use Rattle.block.specs.declared.entry.Entry.{Entry}
 use Rattle.block.proofs.Tests.{never, or-right}
 use Rattle.block.proofs.Shapes.{isDone, isError, isAborted, Settled, idle, runs, aborts, shows, resets, withdraws, Shape, settled, settled-of}
-use Rattle.block.proofs.Passes.{rank, room, openIn, passed, room-most}
+use Rattle.block.proofs.Passes.{room, openIn, passed, room-most}
 use Rattle.block.proofs.SoundLaws.{call-settled}
 
 -- the events of a call whose entry has this job, of a block of kind k

@@ -5,7 +5,7 @@ pub mod SoundSteps
 pub mod WorkLaws
 pub mod Passes
 pub mod CallLaws
-pub mod CallLoop
+pub mod CallPhases
 pub mod SoundLaws
 pub mod EventLaws
 pub mod TimeLaws

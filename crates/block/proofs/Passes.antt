@@ -8,7 +8,7 @@ use mathlib.Core.Option.{Option, none, some}
 use mathlib.Core.Path.{_≡_, _∙_, refl, sym}
 use lib.Dec.{eqb, leb}
 use lib.ListN.{length, take}
-use borrow.Author.Tests.{not-true, leb-true, ne-eqb}
+use borrow.Author.Tests.{not-true, leb-true, ne-eqb, eqb-true}
 use Rattle.kind.specs.Kind.{isEdge, hasAbort, hasTimeLimit, hasTimeOut, isContinuous}
 use Rattle.clock.specs.Clock.{mostElapsed, start, tick, pastTimeOut}
 use Rattle.clock.proofs.ClockLaws.{time-out-none}
@@ -23,6 +23,7 @@ use Rattle.block.specs.Ended.{ended}
 use Rattle.block.specs.Aborting.{aborting}
 use Rattle.block.specs.Resetting.{resetting}
 use Rattle.block.specs.Rules.{rule, pass}
+use Rattle.block.specs.Phases.{isEnd, rank}
 use Rattle.block.specs.Turns.{admits, hasStart, Turns, end, finish, StartsHave, nothing, one}
 use Rattle.block.specs.Turns.{start as begin}
 use Rattle.block.specs.History.{tickAll, clocksOf}
@@ -37,15 +38,6 @@ use Rattle.block.proofs.Tests.{none as no-case}
 use Rattle.block.proofs.Shapes.{End, isDone, isError, isAborted, endStep, endFlags, busy, rec, timesFit, errorCode, EndFits}
 use Rattle.block.proofs.Shapes.{Settled, idle, runs, aborts, shows, resets, withdraws, Shape, settled, unshown}
 use Rattle.block.proofs.WorkLaws.{coded, form, Worked, worked-laws}
-
--- the most passes that can still come
-unfoldable pub rank : Record → ℕ
-rank r =
-    cond (eqb (r .step) Dormant) 4
-    (cond (eqb (r .step) Executing) 3
-    (cond (eqb (r .step) Aborting) 2
-    (cond (eqb (r .step) Resetting) (cond (r .request) 5 1)
-    (cond (r .flags .busy) 1 6))))
 
 -- the most events that can still come
 unfoldable pub room : Record → ℕ
@@ -287,32 +279,28 @@ module _ (k : ℕ) (i : Inputs) (e : Entry) where
   passed (unshown isError {j} {c} {l} {t} {w} f x) = from-unshown j l t w x c isError f
   passed (unshown isAborted {j} {c} {l} {t} {w} f x) = from-unshown j l t w x c isAborted f
 
-cond-most : (n : ℕ) (b : Bool) (x y : ℕ) → x ≤ n → y ≤ n → cond b x y ≤ n
+pub cond-most : (n : ℕ) (b : Bool) (x y : ℕ) → x ≤ n → y ≤ n → cond b x y ≤ n
 cond-most n true x y h g = h
 cond-most n false x y h g = g
 
-cond-least : (n : ℕ) (b : Bool) (x y : ℕ) → n ≤ x → n ≤ y → n ≤ cond b x y
-cond-least n true x y h g = h
-cond-least n false x y h g = g
+-- what holds of a number by the step, and so of the rank
+pub rank-cases : (P : ℕ → Type 0) (r : Record) → (r .step ≡ Dormant → P 4) → (r .step ≡ Executing → P 3) → (r .step ≡ Aborting → P 2) → (r .step ≡ Resetting → P 5)
+    → (r .step ≡ Resetting → P 1) → (isEnd (r .step) ≡ true → P 1) → P 6 → P (rank r)
+unfolding rank
+rank-cases P r f4 f3 f2 f5 f1 g1 f6 =
+    choose P (eqb (r .step) Dormant) _ _ (λ h. f4 (eqb-true _ _ h))
+    (λ _. choose P (eqb (r .step) Executing) _ _ (λ h. f3 (eqb-true _ _ h))
+    (λ _. choose P (eqb (r .step) Aborting) _ _ (λ h. f2 (eqb-true _ _ h))
+    (λ _. choose P (eqb (r .step) Resetting) _ _ (λ h. choose P (r .request) _ _ (λ _. f5 (eqb-true _ _ h)) (λ _. f1 (eqb-true _ _ h)))
+    (λ _. choose P (isEnd (r .step) && r .flags .busy) _ _
+    (λ h. g1 (and-left (isEnd (r .step)) (r .flags .busy) h)) (λ _. f6)))))
 
 -- a pass is to come, and at most six, with at most two events
 pub rank-least : (r : Record) → 1 ≤ rank r
-unfolding rank
-rank-least r =
-    cond-least 1 (eqb (r .step) Dormant) _ _ (omega arith)
-    (cond-least 1 (eqb (r .step) Executing) _ _ (omega arith)
-    (cond-least 1 (eqb (r .step) Aborting) _ _ (omega arith)
-    (cond-least 1 (eqb (r .step) Resetting) _ _ (cond-least 1 (r .request) _ _ (omega arith) (omega arith))
-    (cond-least 1 (r .flags .busy) _ _ (omega arith) (omega arith)))))
+rank-least r = rank-cases (λ (n : ℕ). 1 ≤ n) r (λ _. omega arith) (λ _. omega arith) (λ _. omega arith) (λ _. omega arith) (λ _. omega arith) (λ _. omega arith) (omega arith)
 
 pub rank-most : (r : Record) → rank r ≤ 6
-unfolding rank
-rank-most r =
-    cond-most 6 (eqb (r .step) Dormant) _ _ (omega arith)
-    (cond-most 6 (eqb (r .step) Executing) _ _ (omega arith)
-    (cond-most 6 (eqb (r .step) Aborting) _ _ (omega arith)
-    (cond-most 6 (eqb (r .step) Resetting) _ _ (cond-most 6 (r .request) _ _ (omega arith) (omega arith))
-    (cond-most 6 (r .flags .busy) _ _ (omega arith) (omega arith)))))
+rank-most r = rank-cases (λ (n : ℕ). n ≤ 6) r (λ _. omega arith) (λ _. omega arith) (λ _. omega arith) (λ _. omega arith) (λ _. omega arith) (λ _. omega arith) (omega arith)
 
 pub room-most : (r : Record) → room r ≤ 2
 unfolding room

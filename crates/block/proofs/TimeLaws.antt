@@ -20,6 +20,7 @@ use Rattle.block.specs.Rules.{pass}
 use Rattle.block.specs.Call.{Outcome, passThen, Call, stops, goes}
 use Rattle.block.specs.Turns.{hasStart}
 use Rattle.block.specs.History.{tickAll, clocksOf, inStep}
+use Rattle.block.specs.Phases.{rank}
 use Rattle.block.specs.declared.record.Record.{Record}
 use Rattle.block.specs.declared.entry.Inputs.{Inputs}
 use Rattle.block.specs.declared.entry.Entry.{Entry}
@@ -27,7 +28,7 @@ use Rattle.block.specs.declared.pass.Pass.{Pass}
 use Rattle.membership.proofs.Logic.{by-test}
 use Rattle.block.proofs.Tests.{never}
 use Rattle.block.proofs.Shapes.{Shape, settled, settled-of, sound-held}
-use Rattle.block.proofs.Passes.{rank, Goes, starts, leaves, returns, passed}
+use Rattle.block.proofs.Passes.{Goes, starts, leaves, returns, passed}
 use Rattle.block.proofs.EventLaws.{hasStart-append, Events, events}
 
 pub record Timing (k : ℕ) (e : Entry) (r : Record) (o : Outcome) : Type 0 where

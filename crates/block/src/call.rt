@@ -1,4 +1,4 @@
-// A call: passes until one stops.
+// A call: passes until one stops, in phases.
 use crate::entry::Entry;
 use crate::entry::Inputs;
 use crate::event::Event;
@@ -12,6 +12,7 @@ ghost use Rattle.block.specs.Record.{freshRecord};
 ghost use Rattle.block.specs.Entry.{mostPieces};
 ghost use Rattle.block.specs.Call.{Call, unchanged, callOf};
 ghost use Rattle.block.specs.CallResult.{outcomeOf, noPass, withPass};
+ghost use Rattle.block.specs.Phases.{Phase, Finished};
 
 // What a call leaves: the record, its events (the first `count` of the two), the pieces used and the passes.
 pub struct CallResult {
@@ -97,19 +98,100 @@ impl CallResult {
     }
 }
 
-// One call of a block from a sound record.
+// One call of a block from a sound record. Its passes come in phases, in the one order in which a call can come to the
+// steps: each phase makes the pass of its step, if that is the step, and the next one goes on. A loop over the passes would
+// keep the account in memory, and a rule that is called from more places would not be inlined.
 pub fn call(kind: u8, i: Inputs, e: Entry, r: Record) -> CallResult
     requires { ⌜ (e .count ≤ mostPieces) × (sound kind r ≡ true) ⌝ }
     ensures whole { λ a. ⌜ Call kind i e r (outcomeOf a) ⌝ }
     ensures equal { λ a. ⌜ outcomeOf a ≡ callOf kind i e r ⌝ }
 {
     let mut a = CallResult::begin(r);
-    loop {
-        let p = crate::pass::one_pass(kind, i, e, a.next);
-        a = a.add(p);
-        if p.again {
-            continue;
+    let step = a.next.step;
+    if (step == Record::DONE) | (step == Record::ERROR) | (step == Record::ABORTED) {
+        let shown = crate::ended::ended(kind, i, a.next);
+        a = a.add(shown);
+        if !shown.again {
+            return a;
         }
-        return a;
     }
+    from_resetting(kind, i, e, a)
+}
+
+// The phase of Resetting, with the reset request or without, and those after it.
+fn from_resetting(kind: u8, i: Inputs, e: Entry, from: CallResult) -> CallResult
+    requires { ⌜ (e .count ≤ mostPieces) × Phase kind i e 5 from ⌝ }
+    ensures { λ a. ⌜ Finished kind i e from (outcomeOf a) ⌝ }
+{
+    let mut a = from;
+    if a.next.step == Record::RESETTING {
+        let reset = crate::resetting::resetting(e, a.next);
+        a = a.add(reset);
+        if !reset.again {
+            return a;
+        }
+    }
+    from_dormant(kind, i, e, a)
+}
+
+// The phase of Dormant, and those after it.
+fn from_dormant(kind: u8, i: Inputs, e: Entry, from: CallResult) -> CallResult
+    requires { ⌜ (e .count ≤ mostPieces) × Phase kind i e 4 from ⌝ }
+    ensures { λ a. ⌜ Finished kind i e from (outcomeOf a) ⌝ }
+{
+    let mut a = from;
+    if a.next.step == Record::DORMANT {
+        let started = crate::dormant::dormant(kind, i, e, a.next);
+        a = a.add(started);
+        if !started.again {
+            return a;
+        }
+    }
+    from_executing(kind, i, e, a)
+}
+
+// The phase of Executing, and those after it.
+fn from_executing(kind: u8, i: Inputs, e: Entry, from: CallResult) -> CallResult
+    requires { ⌜ (e .count ≤ mostPieces) × Phase kind i e 3 from ⌝ }
+    ensures { λ a. ⌜ Finished kind i e from (outcomeOf a) ⌝ }
+{
+    let mut a = from;
+    if a.next.step == Record::EXECUTING {
+        let worked = crate::executing::executing(kind, i, e, a.next);
+        a = a.add(worked);
+        if !worked.again {
+            return a;
+        }
+    }
+    from_aborting(kind, i, e, a)
+}
+
+// The phase of Aborting, and the last.
+fn from_aborting(kind: u8, i: Inputs, e: Entry, from: CallResult) -> CallResult
+    requires { ⌜ (e .count ≤ mostPieces) × Phase kind i e 2 from ⌝ }
+    ensures { λ a. ⌜ Finished kind i e from (outcomeOf a) ⌝ }
+{
+    let mut a = from;
+    if a.next.step == Record::ABORTING {
+        let aborted = crate::aborting::aborting(kind, e, a.next);
+        a = a.add(aborted);
+        if !aborted.again {
+            return a;
+        }
+    }
+    last_pass(kind, i, e, a)
+}
+
+// The last phase, whose pass stops: an end step is shown, or a withdrawn block is reset.
+fn last_pass(kind: u8, i: Inputs, e: Entry, a: CallResult) -> CallResult
+    requires { ⌜ (e .count ≤ mostPieces) × Phase kind i e 1 a ⌝ }
+    ensures { λ b. ⌜ Finished kind i e a (outcomeOf b) ⌝ }
+{
+    let step = a.next.step;
+    if (step == Record::DONE) | (step == Record::ERROR) | (step == Record::ABORTED) {
+        let p = crate::ended::ended(kind, i, a.next);
+        return a.add(p);
+    }
+    let p = crate::resetting::resetting(e, a.next);
+    a.add(p)
 }

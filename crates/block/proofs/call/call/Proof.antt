@@ -1,84 +1,65 @@
--- `call` meets its contract. The loop's invariant: what is left of the call, put after the account so far, is the whole call. The measure is what is left of six passes.
-use Prim.Native.Nat.{_-_}
+-- `call` meets its contract: a pass from an end step is made and added, or there is none, and the phases after it finish the call.
+use mathlib.Core.Logic.{⊎-elim}
+use mathlib.Core.Path.{_∙_}
+use borrow.Author.Tests.{not-true, not-false}
 use borrow.Author.Needs.{needs}
-use native.Mathlib.Omega.{arith}
-use Rattle.block.specs.Call.{callOf}
-use Rattle.block.proofs.CallLaws.{call-whole}
-use Rattle.block.proofs.CallLoop.{Rest, rest-begins, rest-ends, rest-fits, rest-less, rest-goes, rest-stops}
+use Rattle.block.proofs.CallPhases.{Onward, pass-ended, call-begins, call-skips, call-ends, phase-skips, phase-fits, phase-stops, phase-goes}
 use Rattle.block.proofs.call.call.Statement.{statement}
 use Rattle.block.proofs.call.call.Tie as tie
+use Rattle.block.proofs.call.call.Reads as reads
+use Rattle.block.proofs.call.call.Lts as lts
+use Rattle.block.proofs.call.CallResult.add.Reads as add-reads
+use Rattle.block.proofs.call.CallResult.begin.Reads as begin-reads
+use Rattle.block.proofs.call.from_resetting.Reads as next-reads
+use Rattle.block.proofs.ended.ended.Reads as ended-reads
 
-abbrev Inv-loop : tie.InvT-loop
-Inv-loop kind i e a₀ a = Rest kind i e a (callOf kind i e (a₀ .next))
-
-abbrev μ-loop : tie.MeasureT-loop
-μ-loop kind i e a₀ a = 6 - a .passes
-
-begin-requires : tie.Need-begin-requires Inv-loop μ-loop
+begin-requires : tie.Need-begin-requires
 begin-requires c κs = search needs
 
-loop-holds : tie.Need-loop-holds Inv-loop μ-loop
-loop-holds c =
-    let g = c .before .args in
-    rest-begins (g .kind) (g .i) (g .e) (g .r) (c .begin .result) (c .begin .ensures) (call-whole (g .kind) (g .i) (g .e) (g .r) (c .before .pre .1))
+ended-requires : tie.Need-ended-requires
+ended-requires c κs = search needs
 
-one-pass-requires : tie.Need-one-pass-requires Inv-loop μ-loop
-one-pass-requires c κs = c .before .before .pre .0
-
-add-requires : tie.Need-add-requires Inv-loop μ-loop
+add-requires : tie.Need-add-requires
 add-requires c κs =
-    let g = c .before .before .before .args in
-    let fits = rest-fits (g .kind) (g .i) (g .e) (c .before .loop .a) _ (c .before .loop .inv) (c .one-pass .result) (c .one-pass .ensures) (c .before .before .before .pre .0) in
-    (fits .0, omega arith)
+    let begun = c .before .before in
+    let start = begun .before in
+    let g = start .args in
+    let l = call-begins (g .kind) (g .i) (g .e) (g .r) (start .pre .1) (begun .begin .ensures) in
+    phase-fits 5 l (c .ended .ensures ∙ pass-ended l (c .before .if1 .taken)) (start .pre .0)
 
-loop-less : tie.Need-loop-less Inv-loop μ-loop
-loop-less c =
-    let after-add = c .before in
-    let after-one-pass = after-add .before in
-    let at-loop = after-one-pass .before in
-    let at-start = at-loop .before .before in
-    let g = at-start .args in
-    let l = at-loop .loop in
-    let p = after-one-pass .one-pass in
-    let b = after-add .add in
-    rest-less (g .kind) (g .i) (g .e) (l .a) _ (l .inv) (p .result) (p .ensures) (b .result) (b .ensures) (at-start .pre .0)
-
-loop-again : tie.Need-loop-again Inv-loop μ-loop
-loop-again c =
-    let after-add = c .before in
-    let after-one-pass = after-add .before in
-    let at-loop = after-one-pass .before in
-    let at-start = at-loop .before .before in
-    let g = at-start .args in
-    let l = at-loop .loop in
-    let p = after-one-pass .one-pass in
-    let b = after-add .add in
-    rest-goes (g .kind) (g .i) (g .e) (l .a) _ (l .inv) (p .result) (p .ensures) (b .result) (b .ensures) (at-start .pre .0) (c .if1 .taken)
-
-returns : tie.Need-returns Inv-loop μ-loop
+returns : tie.Need-returns
 returns c =
-    let after-add = c .before in
-    let after-one-pass = after-add .before in
-    let at-loop = after-one-pass .before in
-    let after-begin = at-loop .before in
-    let at-start = after-begin .before in
-    let g = at-start .args in
-    let l = at-loop .loop in
-    let p = after-one-pass .one-pass in
-    let b = after-add .add in
-    rest-ends (g .kind) (g .i) (g .e) (g .r) (after-begin .begin .result) _ (after-begin .begin .ensures) (call-whole (g .kind) (g .i) (g .e) (g .r) (at-start .pre .1))
-    (rest-stops (g .kind) (g .i) (g .e) (l .a) _ (l .inv) (p .result) (p .ensures) (b .result) (b .ensures) (c .if1 .left))
+    let added = c .before .before in
+    let made = added .before in
+    let begun = made .before .before in
+    let start = begun .before in
+    let g = start .args in
+    let l = call-begins (g .kind) (g .i) (g .e) (g .r) (start .pre .1) (begun .begin .ensures) in
+    call-ends (g .kind) (g .i) (g .e) (g .r) (start .pre .1) (begun .begin .ensures) _
+    (phase-stops 5 l (made .ended .ensures ∙ pass-ended l (made .before .if1 .taken)) (added .add .ensures) (not-true (made .ended .result .again) (c .if2 .taken)))
+
+-- where the two ways meet
+onward : (c : lts.Joined1 (begin-reads.Asked, begin-reads.Learnt, ended-reads.Asked, ended-reads.Learnt, add-reads.Asked, add-reads.Learnt, next-reads.Asked, next-reads.Learnt) reads.Pre reads.Post)
+    → Onward (c .before .before .args .kind) (c .before .before .args .i) (c .before .before .args .e) 5 (c .before .begin .result) (c .if1 .a)
+onward c =
+    let begun = c .before in
+    let start = begun .before in
+    let g = start .args in
+    let l = call-begins (g .kind) (g .i) (g .e) (g .r) (start .pre .1) (begun .begin .ensures) in
+    ⊎-elim
+    (λ w. phase-goes 5 l (w .1 .ensures ∙ pass-ended l (w .0 .taken)) (w .5 ∙ w .2 .ensures) (start .pre .0) (not-false (w .1 .result .again) (w .4 .left)))
+    (λ w. phase-skips 5 l (call-skips (g .kind) (g .i) (g .e) (g .r) (start .pre .1) (begun .begin .ensures) (w .0 .left)) (w .1))
+    (c .if1 .came)
+
+from-resetting-requires : tie.Need-from-resetting-requires
+from-resetting-requires c κs = (c .before .before .pre .0, onward c .begins)
+
+returns-2 : tie.Need-returns-2
+returns-2 c =
+    let begun = c .before .before in
+    let start = begun .before in
+    let g = start .args in
+    call-ends (g .kind) (g .i) (g .e) (g .r) (start .pre .1) (begun .begin .ensures) _ (onward (c .before) .finish _ (c .from-resetting .ensures))
 
 pub call-spec : {M : Type 1} → statement M
-call-spec =
-    tie.close
-    (tie.spec
-    Inv-loop
-    μ-loop
-    begin-requires
-    loop-holds
-    one-pass-requires
-    add-requires
-    loop-less
-    loop-again
-    returns)
+call-spec = tie.close (tie.spec begin-requires ended-requires add-requires returns from-resetting-requires returns-2)
