@@ -1,15 +1,18 @@
 // The kind and the wires of a block of an accepted table, by its index on the chain, from 0.
 ghost use mathlib.Core.Path.{_≡_};
 ghost use Prim.Native.Nat.{_+_, _<_, _≤_};
-ghost use Rattle.image.specs.Image.{mostSlots, slotLength, wireSlot, wireCode, HasSlot};
+ghost use mathlib.Core.Bool.{_&&_};
+ghost use Rattle.image.specs.Image.{mostSlots, slotLength, wireSlot, wireCode, startWireOffset, abortWireOffset, HasSlot};
 ghost use Rattle.table.specs.Chain.{chainOf, HoldsPositions};
 ghost use Rattle.table.specs.Check.{Accepted};
-ghost use Rattle.table.specs.Blocks.{wireOf, blocksOf, blockAt, configAt};
+ghost use Rattle.table.specs.Record.{noWire};
+ghost use Rattle.table.specs.Blocks.{fromFrame, wireOf, blocksOf, blockAt, configAt};
 use image::ABORT_WIRE_OFFSET;
 use image::KIND_OFFSET;
 use image::MOST_SLOTS;
 use image::START_WIRE_OFFSET;
 use image::slot_byte;
+use image::slot_start;
 
 // An input: flag 0 busy, 1 done, 2 error or 3 aborted of the block at a position. Position 0: the input bit of the frame.
 pub struct Wire {
@@ -25,6 +28,27 @@ pub struct BlockConfig {
     pub abort: Wire,
 }
 
+// Whether a slot has no wire: its four bytes of wires as one number.
+fn no_wires(image: &[u8], slot: u8) -> bool
+    requires { ⌜ HasSlot (now image) slot ⌝ }
+    ensures { λ r. ⌜ r
+        ≡ noWire (wireSlot (now (image .entry)) slot startWireOffset) (wireCode (now (image .entry)) slot startWireOffset)
+        && noWire (wireSlot (now (image .entry)) slot abortWireOffset) (wireCode (now (image .entry)) slot abortWireOffset) ⌝ }
+{
+    words::u32_at(image, slot_start(slot) + START_WIRE_OFFSET) == 0
+}
+
+// The wire that there is not: the input is the frame's bit.
+fn from_frame() -> Wire
+    ensures { λ r. ⌜ r ≡ fromFrame ⌝ }
+{
+    Wire {
+        position: 0,
+        flag: 0,
+        inverted: false,
+    }
+}
+
 // A wire of a slot, by where its two bytes stand.
 fn wire_at(image: &[u8], positions: &[u8; MOST_SLOTS + 1], slot: u8, wire: usize) -> Wire
     requires { ⌜ HasSlot (now image) slot ⌝ }
@@ -36,11 +60,7 @@ fn wire_at(image: &[u8], positions: &[u8; MOST_SLOTS + 1], slot: u8, wire: usize
     let source = slot_byte(image, slot, wire);
     let code = slot_byte(image, slot, wire + 1);
     if source == 0 {
-        return Wire {
-            position: 0,
-            flag: 0,
-            inverted: false,
-        };
+        return from_frame();
     }
     let i = source as usize;
     Wire {
@@ -95,7 +115,7 @@ fn abort_wire(
     wire_at(image, positions, slots[i], ABORT_WIRE_OFFSET)
 }
 
-// The kind and the wires of block i.
+// The kind and the wires of block i; most blocks have none.
 pub fn config_at(
     image: &[u8],
     slots: &[u8; MOST_SLOTS],
@@ -108,6 +128,13 @@ pub fn config_at(
     ensures { λ r. ⌜ r ≡ configAt (blocksOf (now (image .entry))) i ⌝ }
 {
     let kind = kind_at(image, slots, positions, count, i);
+    if no_wires(image, slots[i]) {
+        return BlockConfig {
+            kind,
+            start: from_frame(),
+            abort: from_frame(),
+        };
+    }
     let start = start_wire(image, slots, positions, count, i);
     let abort = abort_wire(image, slots, positions, count, i);
     BlockConfig { kind, start, abort }

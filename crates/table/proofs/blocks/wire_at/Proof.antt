@@ -26,11 +26,14 @@ add-slot-byte c = search needs
 slot-byte-requires-2 : tie.Need-slot-byte-requires-2
 slot-byte-requires-2 c κs = search needs
 
+from-frame-requires : tie.Need-from-frame-requires
+from-frame-requires c κs = search needs
+
 returns : tie.Need-returns
 returns c =
-    let p = c .before .before in
-    let e : source p ≡ 0 = sym (p .slot-byte .ensures) ∙ c .if1 .taken in
-    simp (eq-eqb _ _ e)
+    let p = c .before .before .before in
+    let e : source p ≡ 0 = sym (p .slot-byte .ensures) ∙ c .before .if1 .taken in
+    simp (eq-eqb _ _ e) (c .from-frame .ensures)
 
 cast-i : tie.Need-cast-i
 cast-i c = search needs
@@ -54,6 +57,7 @@ wire-at-spec =
     slot-byte-requires
     add-slot-byte
     slot-byte-requires-2
+    from-frame-requires
     returns
     cast-i
     element-copy-out-t12
