@@ -1,6 +1,7 @@
 pub mod Record
 pub mod Event
 pub mod Entry
+pub mod PackedEntry
 pub mod Sound
 pub mod Pass
 pub mod Dormant

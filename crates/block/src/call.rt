@@ -1,10 +1,11 @@
 // A call: passes until one stops, in phases.
-use crate::entry::Entry;
 use crate::entry::Inputs;
+use crate::entry::PackedEntry;
 use crate::event::Event;
 use crate::pass::Pass;
 use crate::record::Record;
 ghost use mathlib.Core.Path.{_≡_};
+ghost use Rattle.block.specs.PackedEntry.{entryOf};
 ghost use mathlib.Core.Bool.{true};
 ghost use Prim.Native.Nat.{_+_, _<_, _≤_};
 ghost use Rattle.block.specs.Sound.{sound};
@@ -101,10 +102,10 @@ impl CallResult {
 // One call of a block from a sound record. Its passes come in phases, in the one order in which a call can come to the
 // steps: each phase makes the pass of its step, if that is the step, and the next one goes on. A loop over the passes would
 // keep the account in memory, and a rule that is called from more places would not be inlined.
-pub fn call(kind: u8, i: Inputs, e: Entry, r: Record) -> CallResult
+pub fn call(kind: u8, i: Inputs, e: PackedEntry, r: Record) -> CallResult
     requires { ⌜ (e .count ≤ mostPieces) × (sound kind r ≡ true) ⌝ }
-    ensures whole { λ a. ⌜ Call kind i e r (outcomeOf a) ⌝ }
-    ensures equal { λ a. ⌜ outcomeOf a ≡ callOf kind i e r ⌝ }
+    ensures whole { λ a. ⌜ Call kind i (entryOf e) r (outcomeOf a) ⌝ }
+    ensures equal { λ a. ⌜ outcomeOf a ≡ callOf kind i (entryOf e) r ⌝ }
 {
     let mut a = CallResult::begin(r);
     let step = a.next.step;
@@ -119,9 +120,9 @@ pub fn call(kind: u8, i: Inputs, e: Entry, r: Record) -> CallResult
 }
 
 // The phase of Resetting, with the reset request or without, and those after it.
-fn from_resetting(kind: u8, i: Inputs, e: Entry, from: CallResult) -> CallResult
-    requires { ⌜ (e .count ≤ mostPieces) × Phase kind i e 5 from ⌝ }
-    ensures { λ a. ⌜ Finished kind i e from (outcomeOf a) ⌝ }
+fn from_resetting(kind: u8, i: Inputs, e: PackedEntry, from: CallResult) -> CallResult
+    requires { ⌜ (e .count ≤ mostPieces) × Phase kind i (entryOf e) 5 from ⌝ }
+    ensures { λ a. ⌜ Finished kind i (entryOf e) from (outcomeOf a) ⌝ }
 {
     let mut a = from;
     if a.next.step == Record::RESETTING {
@@ -135,9 +136,9 @@ fn from_resetting(kind: u8, i: Inputs, e: Entry, from: CallResult) -> CallResult
 }
 
 // The phase of Dormant, and those after it.
-fn from_dormant(kind: u8, i: Inputs, e: Entry, from: CallResult) -> CallResult
-    requires { ⌜ (e .count ≤ mostPieces) × Phase kind i e 4 from ⌝ }
-    ensures { λ a. ⌜ Finished kind i e from (outcomeOf a) ⌝ }
+fn from_dormant(kind: u8, i: Inputs, e: PackedEntry, from: CallResult) -> CallResult
+    requires { ⌜ (e .count ≤ mostPieces) × Phase kind i (entryOf e) 4 from ⌝ }
+    ensures { λ a. ⌜ Finished kind i (entryOf e) from (outcomeOf a) ⌝ }
 {
     let mut a = from;
     if a.next.step == Record::DORMANT {
@@ -151,9 +152,9 @@ fn from_dormant(kind: u8, i: Inputs, e: Entry, from: CallResult) -> CallResult
 }
 
 // The phase of Executing, and those after it.
-fn from_executing(kind: u8, i: Inputs, e: Entry, from: CallResult) -> CallResult
-    requires { ⌜ (e .count ≤ mostPieces) × Phase kind i e 3 from ⌝ }
-    ensures { λ a. ⌜ Finished kind i e from (outcomeOf a) ⌝ }
+fn from_executing(kind: u8, i: Inputs, e: PackedEntry, from: CallResult) -> CallResult
+    requires { ⌜ (e .count ≤ mostPieces) × Phase kind i (entryOf e) 3 from ⌝ }
+    ensures { λ a. ⌜ Finished kind i (entryOf e) from (outcomeOf a) ⌝ }
 {
     let mut a = from;
     if a.next.step == Record::EXECUTING {
@@ -167,9 +168,9 @@ fn from_executing(kind: u8, i: Inputs, e: Entry, from: CallResult) -> CallResult
 }
 
 // The phase of Aborting, and the last.
-fn from_aborting(kind: u8, i: Inputs, e: Entry, from: CallResult) -> CallResult
-    requires { ⌜ (e .count ≤ mostPieces) × Phase kind i e 2 from ⌝ }
-    ensures { λ a. ⌜ Finished kind i e from (outcomeOf a) ⌝ }
+fn from_aborting(kind: u8, i: Inputs, e: PackedEntry, from: CallResult) -> CallResult
+    requires { ⌜ (e .count ≤ mostPieces) × Phase kind i (entryOf e) 2 from ⌝ }
+    ensures { λ a. ⌜ Finished kind i (entryOf e) from (outcomeOf a) ⌝ }
 {
     let mut a = from;
     if a.next.step == Record::ABORTING {
@@ -183,9 +184,9 @@ fn from_aborting(kind: u8, i: Inputs, e: Entry, from: CallResult) -> CallResult
 }
 
 // The last phase, whose pass stops: an end step is shown, or a withdrawn block is reset.
-fn last_pass(kind: u8, i: Inputs, e: Entry, a: CallResult) -> CallResult
-    requires { ⌜ (e .count ≤ mostPieces) × Phase kind i e 1 a ⌝ }
-    ensures { λ b. ⌜ Finished kind i e a (outcomeOf b) ⌝ }
+fn last_pass(kind: u8, i: Inputs, e: PackedEntry, a: CallResult) -> CallResult
+    requires { ⌜ (e .count ≤ mostPieces) × Phase kind i (entryOf e) 1 a ⌝ }
+    ensures { λ b. ⌜ Finished kind i (entryOf e) a (outcomeOf b) ⌝ }
 {
     let step = a.next.step;
     if (step == Record::DONE) | (step == Record::ERROR) | (step == Record::ABORTED) {

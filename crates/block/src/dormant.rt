@@ -1,16 +1,17 @@
 // The rule of Dormant.
-use crate::entry::Entry;
 use crate::entry::Inputs;
+use crate::entry::PackedEntry;
 use crate::event::Event;
 use crate::pass::Pass;
 use crate::record::Record;
 use clock::Timer;
 ghost use mathlib.Core.Path.{_≡_};
+ghost use Rattle.block.specs.PackedEntry.{entryOf};
 ghost use Rattle.block.specs.Dormant.{limitTaken, timeOutTaken, started, dormant};
 
 // The time limit that a start takes.
-fn limit_taken(kind: u8, e: Entry) -> u32
-    ensures { λ r. ⌜ r ≡ limitTaken kind e ⌝ }
+fn limit_taken(kind: u8, e: PackedEntry) -> u32
+    ensures { λ r. ⌜ r ≡ limitTaken kind (entryOf e) ⌝ }
 {
     if kind::is_edge(kind) & kind::has_time_limit(kind) {
         return e.limit;
@@ -19,8 +20,8 @@ fn limit_taken(kind: u8, e: Entry) -> u32
 }
 
 // The time-out that a start takes.
-fn time_out_taken(kind: u8, e: Entry) -> u32
-    ensures { λ r. ⌜ r ≡ timeOutTaken kind e ⌝ }
+fn time_out_taken(kind: u8, e: PackedEntry) -> u32
+    ensures { λ r. ⌜ r ≡ timeOutTaken kind (entryOf e) ⌝ }
 {
     if kind::is_edge(kind) & kind::has_time_out(kind) {
         return e.timeout;
@@ -28,8 +29,8 @@ fn time_out_taken(kind: u8, e: Entry) -> u32
     0
 }
 
-fn started(kind: u8, e: Entry, mut r: Record) -> Record
-    ensures { λ s. ⌜ s ≡ started kind e r ⌝ }
+fn started(kind: u8, e: PackedEntry, mut r: Record) -> Record
+    ensures { λ s. ⌜ s ≡ started kind (entryOf e) r ⌝ }
 {
     r.step = Record::EXECUTING;
     r.flags.busy = true;
@@ -41,8 +42,8 @@ fn started(kind: u8, e: Entry, mut r: Record) -> Record
     r
 }
 
-pub fn dormant(kind: u8, i: Inputs, e: Entry, r: Record) -> Pass
-    ensures { λ p. ⌜ p ≡ dormant kind i e r ⌝ }
+pub fn dormant(kind: u8, i: Inputs, e: PackedEntry, r: Record) -> Pass
+    ensures { λ p. ⌜ p ≡ dormant kind i (entryOf e) r ⌝ }
 {
     if i.start {
         let next = started(kind, e, r);

@@ -2,12 +2,16 @@
 use crate::entry::Entry;
 use crate::entry::Inputs;
 use crate::entry::PIECES;
+use crate::entry::PackedEntry;
 use crate::entry::Piece;
+use crate::entry::piece_of;
 use crate::pass::Pass;
 use crate::record::Record;
 use clock::Timer;
 ghost use mathlib.Core.Path.{_≡_};
+ghost use Rattle.block.specs.PackedEntry.{pieceOf, entryOf};
 ghost use Prim.Native.Nat.{_+_, _<_, _≤_};
+ghost use mathlib.Core.List.{map};
 ghost use lib.ListN.{take};
 ghost use Rattle.block.specs.Entry.{mostPieces};
 ghost use Rattle.block.specs.Executing.{calledOff, limitOf, timeOutOf, atCall, usePiece, endsPieces, usePieces, timed, judge, executing};
@@ -38,8 +42,8 @@ fn called_off(kind: u8, i: Inputs) -> bool
 }
 
 // The time limit in force, 0 for none.
-fn limit_of(kind: u8, e: Entry, r: Record) -> u32
-    ensures { λ t. ⌜ t ≡ limitOf kind e r ⌝ }
+fn limit_of(kind: u8, e: PackedEntry, r: Record) -> u32
+    ensures { λ t. ⌜ t ≡ limitOf kind (entryOf e) r ⌝ }
 {
     if kind::has_time_limit(kind) {
         if kind::is_edge(kind) {
@@ -51,8 +55,8 @@ fn limit_of(kind: u8, e: Entry, r: Record) -> u32
 }
 
 // The time-out in force, 0 for none.
-fn time_out_of(kind: u8, e: Entry, r: Record) -> u32
-    ensures { λ t. ⌜ t ≡ timeOutOf kind e r ⌝ }
+fn time_out_of(kind: u8, e: PackedEntry, r: Record) -> u32
+    ensures { λ t. ⌜ t ≡ timeOutOf kind (entryOf e) r ⌝ }
 {
     if kind::has_time_out(kind) {
         if kind::is_edge(kind) {
@@ -64,8 +68,8 @@ fn time_out_of(kind: u8, e: Entry, r: Record) -> u32
 }
 
 // Before the first piece: the time to the call clock is added.
-fn at_call(e: Entry, r: Record) -> Work
-    ensures { λ w. ⌜ w ≡ atCall e r ⌝ }
+fn at_call(e: PackedEntry, r: Record) -> Work
+    ensures { λ w. ⌜ w ≡ atCall (entryOf e) r ⌝ }
 {
     let before = r.timer;
     let timer = before.tick(e.clock);
@@ -102,15 +106,15 @@ fn ends_pieces(several: bool, b: Bounds, w: Work, p: Piece) -> bool
         | timer.past_time_out(b.timeout)
 }
 
-fn use_pieces(several: bool, b: Bounds, count: u8, ps: [Piece; PIECES], from: Work) -> Work
+fn use_pieces(several: bool, b: Bounds, count: u8, ps: [u64; PIECES], from: Work) -> Work
     requires { ⌜ (count ≤ mostPieces) × (from .used ≤ 0) ⌝ }
-    ensures { λ w. ⌜ w ≡ usePieces several b from (take count ps) ⌝ }
+    ensures { λ w. ⌜ w ≡ usePieces several b from (take count (map pieceOf ps)) ⌝ }
 {
     let n = count as usize;
     let mut w = from;
     let mut i = 0;
     while i < n {
-        let p = ps[i];
+        let p = piece_of(ps[i]);
         w = use_piece(w, p);
         if ends_pieces(several, b, w, p) {
             return w;
@@ -148,9 +152,9 @@ fn judge(continuous: bool, timeout: u32, w: Work, r: Record) -> Pass
     Pass::stop(w.used, next)
 }
 
-pub fn executing(kind: u8, i: Inputs, e: Entry, r: Record) -> Pass
+pub fn executing(kind: u8, i: Inputs, e: PackedEntry, r: Record) -> Pass
     requires { ⌜ e .count ≤ mostPieces ⌝ }
-    ensures { λ p. ⌜ p ≡ executing kind i e r ⌝ }
+    ensures { λ p. ⌜ p ≡ executing kind i (entryOf e) r ⌝ }
 {
     if called_off(kind, i) {
         return Pass::go_on(0, r.at_step(Record::ABORTING));

@@ -1,13 +1,15 @@
 // The rule of Resetting.
 use crate::entry::Entry;
+use crate::entry::PackedEntry;
 use crate::event::Event;
 use crate::pass::Pass;
 use crate::record::Record;
 ghost use mathlib.Core.Path.{_≡_};
+ghost use Rattle.block.specs.PackedEntry.{entryOf};
 ghost use Rattle.block.specs.Resetting.{resetting};
 
-pub fn resetting(e: Entry, r: Record) -> Pass
-    ensures { λ p. ⌜ p ≡ resetting e r ⌝ }
+pub fn resetting(e: PackedEntry, r: Record) -> Pass
+    ensures { λ p. ⌜ p ≡ resetting (entryOf e) r ⌝ }
 {
     if e.reset_reply == Entry::COMPLETE {
         return Pass {

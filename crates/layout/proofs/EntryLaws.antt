@@ -1,6 +1,6 @@
 -- Frame entries as bytes, and back: each undoes the other, and what is read fits its bytes. For the engine, which reads entries from the frame,
 -- and for programs that build frames.
-use Prim.Native.Nat.{ℕ, suc, _+_, _-_, _*_, _<_, _≤_}
+use Prim.Native.Nat.{ℕ, suc, _+_, _-_, _*_, _/_, _%_, _<_, _≤_}
 use mathlib.Core.Path.{_≡_, refl, ap, sym, _∙_}
 use mathlib.Core.Bool.{Bool, true}
 use mathlib.Core.List.{List, [], _∷_, _++_, append-assoc, append-nil}
@@ -10,8 +10,9 @@ use lib.ListN.{length, getD, take, drop, take-append-drop, length-append, length
 use lib.Seq.{length-take-le, take-all, take-at, drop-at, drop-drop}
 use borrow.Author.Tests.{ltb-true, eqb-true, lt-ltb}
 use Rattle.words.specs.Word.{Bytes, number, bytes, numberAt, allZero, zeroAt}
-use Rattle.words.proofs.WordLaws.{length-bytes, number-of-bytes}
+use Rattle.words.proofs.WordLaws.{number-one, number-split, length-bytes, number-of-bytes}
 use Rattle.block.specs.Entry.{mostPieces, entryFits}
+use Rattle.block.specs.PackedEntry.{pieceOf}
 use Rattle.block.specs.declared.entry.Piece.{Piece}
 use Rattle.block.specs.declared.entry.Entry.{Entry}
 use Rattle.layout.specs.Buffer.{entryLength, byteAt, put, jobWidth}
@@ -291,3 +292,19 @@ pub entry-encode : (e : Entry) → EntryFits e → entryFits e ≡ true → entr
 unfolding entryBytes
 entry-encode e f h =
     and-join (entryForm (encodeEntry e)) (entryFits (decodeEntry (encodeEntry e))) (encode-form e (f .four)) (ap entryFits (decode-encode e f) ∙ h)
+
+-- a piece in the number of its eight bytes, for `decode_entry`
+pub packed-piece : (s : List ℕ) (at : ℕ) → Bytes s → at + pieceLength ≤ length s → pieceOf (numberAt pieceLength s at) ≡ decodePiece s at
+packed-piece s at b h =
+    λ i. record { reply = reply i; code = code i; clock = clock i }
+  where
+    reply : numberAt pieceLength s at % 256 ≡ byteAt s at
+    reply =
+        omega (arith, number-split 1 7 s at (omega arith), number-one s at (omega arith), b at)
+
+    clock : numberAt pieceLength s at / 4294967296 ≡ numberAt 4 s (at + pieceField .clock)
+    clock = omega (arith, number-split 4 4 s at (omega arith), field-bound 4 at s b)
+
+    code : numberAt pieceLength s at / 65536 % 65536 ≡ numberAt 2 s (at + pieceField .code)
+    code =
+        omega (arith, number-split 2 6 s at (omega arith), number-split 2 4 s (at + 2) (omega arith), field-bound 2 at s b, field-bound 2 (at + 2) s b)

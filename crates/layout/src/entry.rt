@@ -2,6 +2,7 @@
 use block::entry::Entry;
 use block::entry::Inputs;
 use block::entry::PIECES;
+use block::entry::PackedEntry;
 use block::entry::Piece;
 ghost use mathlib.Core.Path.{_≡_};
 ghost use mathlib.Core.Bool.{_&&_};
@@ -9,6 +10,7 @@ ghost use mathlib.Core.List.{_++_};
 ghost use Prim.Native.Nat.{_+_, _*_, _≤_};
 ghost use lib.ListN.{length, take, drop};
 ghost use Rattle.words.specs.Word.{bytes, zeroAt};
+ghost use Rattle.block.specs.PackedEntry.{entryOf};
 ghost use Rattle.block.specs.Entry.{mostPieces, codeFits, pieceForm, pieceFits, headFits};
 ghost use Rattle.layout.specs.Buffer.{entryLength, jobWidth, put};
 ghost use Rattle.layout.specs.EntryLayout.{entryOffset, pieceLength, headLength, piecesEnd, headForm, pieceZero};
@@ -48,8 +50,6 @@ const CLOCK_OFFSET: usize = 20;
 // Within a piece; its reply is first.
 const PIECE_CODE_OFFSET: usize = 2;
 
-const PIECE_CLOCK_OFFSET: usize = 4;
-
 const FIRST_PIECE: usize = HEAD_BYTES;
 
 const SECOND_PIECE: usize = FIRST_PIECE + PIECE_BYTES;
@@ -70,29 +70,18 @@ pub fn decode_inputs(b: u8) -> Inputs
     }
 }
 
-fn decode_piece(s: &[u8], at: usize) -> Piece
-    requires { ⌜ at + pieceLength ≤ length (now s) ⌝ }
-    ensures { λ p. ⌜ p ≡ decodePiece (now (s .entry)) at ⌝ }
-{
-    Piece {
-        reply: s[at],
-        code: words::u16_at(s, at + PIECE_CODE_OFFSET),
-        clock: words::u32_at(s, at + PIECE_CLOCK_OFFSET),
-    }
-}
-
-// The entry in its bytes.
-pub fn decode_entry(s: &[u8]) -> Entry
+// The entry in its bytes, each piece as one number.
+pub fn decode_entry(s: &[u8]) -> PackedEntry
     requires { ⌜ entryLength ≤ length (now s) ⌝ }
-    ensures { λ e. ⌜ e ≡ decodeEntry (now (s .entry)) ⌝ }
+    ensures { λ e. ⌜ entryOf e ≡ decodeEntry (now (s .entry)) ⌝ }
 {
     let pieces = [
-        decode_piece(s, FIRST_PIECE),
-        decode_piece(s, SECOND_PIECE),
-        decode_piece(s, THIRD_PIECE),
-        decode_piece(s, FOURTH_PIECE),
+        words::u64_at(s, FIRST_PIECE),
+        words::u64_at(s, SECOND_PIECE),
+        words::u64_at(s, THIRD_PIECE),
+        words::u64_at(s, FOURTH_PIECE),
     ];
-    Entry {
+    PackedEntry {
         inputs: decode_inputs(s[INPUTS_OFFSET]),
         count: s[COUNT_OFFSET],
         abort_reply: s[ABORT_REPLY_OFFSET],

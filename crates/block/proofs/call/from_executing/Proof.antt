@@ -4,6 +4,7 @@ use mathlib.Core.Logic.{⊎-elim}
 use mathlib.Core.Path.{_∙_}
 use borrow.Author.Tests.{not-true, not-false}
 use borrow.Author.Needs.{needs}
+use Rattle.block.specs.PackedEntry.{entryOf}
 use Rattle.block.proofs.CallPhases.{Onward, rank-other, pass-executing, phase-skips, phase-fits, phase-stops, phase-goes}
 use Rattle.block.proofs.call.from_executing.Statement.{statement}
 use Rattle.block.proofs.call.from_executing.Tie as tie
@@ -30,7 +31,7 @@ returns c =
 
 -- where the two ways meet
 onward : (c : lts.Joined1 (executing-reads.Asked, executing-reads.Learnt, add-reads.Asked, add-reads.Learnt, next-reads.Asked, next-reads.Learnt) reads.Pre reads.Post)
-    → Onward (c .before .before .args .kind) (c .before .before .args .i) (c .before .before .args .e) 2 (c .before .before .args .from) (c .if1 .a)
+    → Onward (c .before .before .args .kind) (c .before .before .args .i) (entryOf (c .before .before .args .e)) 2 (c .before .before .args .from) (c .if1 .a)
 onward c =
     let pre = c .before .before .pre in
     ⊎-elim

@@ -10,6 +10,7 @@ use Rattle.block.specs.Executing.{limitOf, timeOutOf, atCall, usePieces,
 use Rattle.block.specs.declared.record.Record.{Record}
 use Rattle.block.specs.declared.entry.Entry.{Entry}
 use Rattle.block.specs.declared.executing.Work.{Work}
+use Rattle.block.specs.PackedEntry.{entryOf}
 use borrow.Author.Needs.{needs}
 use Rattle.block.proofs.executing.executing.Statement.{statement}
 use Rattle.block.proofs.executing.executing.Tie as tie
@@ -72,10 +73,10 @@ returns-2 c =
     let a = at-start .args in
     let et = after-time-out-of .time-out-of .ensures in
     let ew =
-    work-by (a .kind) (a .e) (a .r) _ et _ _ _ _ (after-has-time-limit .has-time-limit .ensures) (after-limit-of .limit-of .ensures)
+    work-by (a .kind) (entryOf (a .e)) (a .r) _ et _ _ _ _ (after-has-time-limit .has-time-limit .ensures) (after-limit-of .limit-of .ensures)
     (after-at-call .at-call .ensures) (after-use-pieces .use-pieces .ensures) in
     rw (← after-called-off .called-off .ensures, after-if1 .if1 .left)
-    (c .judge .ensures ∙ judged-by (a .kind) (a .e) (a .r) _ et _ _ (c .before .is-continuous .ensures) ew)
+    (c .judge .ensures ∙ judged-by (a .kind) (entryOf (a .e)) (a .r) _ et _ _ (c .before .is-continuous .ensures) ew)
 
 pub executing-spec : {M : Type 1} → statement M
 executing-spec =

@@ -1,7 +1,10 @@
 -- `serve::call_at` meets its contract: the inputs, the record and the entry, then the call.
-use mathlib.Core.Path.{_≡_, _∙_}
+use mathlib.Core.Path.{_≡_, ap, _∙_}
+use native.Mathlib.Omega.{arith}
 use native.Mathlib.Nat.{add-sub-cancel-left}
+use Rattle.block.specs.PackedEntry.{entryOf}
 use Rattle.block.specs.Call.{callOf}
+use Rattle.block.specs.declared.entry.Entry.{Entry}
 use Rattle.layout.proofs.RecordLaws.{sound-record}
 use Rattle.engine.specs.Serve.{recordIn, entryIn, callIn}
 use borrow.Author.Needs.{needs}
@@ -53,8 +56,8 @@ call-requires c κs =
     let entry = decoded .before .before .before .before .before in
     let a = entry .args in
     let r : decoded .decode-record .result ≡ recordIn (a .state .now) (a .i) = rw add-sub-cancel-left at (decoded .decode-record .ensures) in
-    let e : c .decode-entry .result ≡ entryIn (a .frame .now) (a .i) = rw add-sub-cancel-left at (c .decode-entry .ensures) in
-    (rw e (entry .pre .0 .pieces), rw r (sound-record _ _ (entry .pre .0 .isSound)))
+    let e : entryOf (c .decode-entry .result) ≡ entryIn (a .frame .now) (a .i) = rw add-sub-cancel-left at (c .decode-entry .ensures) in
+    (omega (arith, ap (λ (x : Entry). x .count) e, entry .pre .0 .pieces), rw r (sound-record _ _ (entry .pre .0 .isSound)))
 
 returns : tie.Need-returns
 unfolding callIn
@@ -63,7 +66,7 @@ returns c =
     let resolved = decoded .before .before in
     let a = resolved .before .before .before .args in
     let r : decoded .decode-record .result ≡ recordIn (a .state .now) (a .i) = rw add-sub-cancel-left at (decoded .decode-record .ensures) in
-    let e : c .before .decode-entry .result ≡ entryIn (a .frame .now) (a .i) = rw add-sub-cancel-left at (c .before .decode-entry .ensures) in
+    let e : entryOf (c .before .decode-entry .result) ≡ entryIn (a .frame .now) (a .i) = rw add-sub-cancel-left at (c .before .decode-entry .ensures) in
     c .call .ensures .1 ∙ (λ j. callOf (a .b .kind) (resolved .inputs-at .ensures j) (e j) (r j))
 
 pub call-at-spec : {M : Type 1} → statement M
