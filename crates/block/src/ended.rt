@@ -5,7 +5,7 @@ use crate::pass::Pass;
 use crate::record::Flags;
 use crate::record::Record;
 ghost use mathlib.Core.Path.{_≡_};
-ghost use Rattle.block.specs.Ended.{ownFlag, flagsShown, requestShown, resetDue, shown, finishEvent, ended};
+ghost use Rattle.block.specs.Ended.{ownFlag, requestShown, resetDue, shown, finishEvent, ended};
 
 // The flag of the step.
 fn own_flag(step: u8, f: Flags) -> bool
@@ -20,18 +20,6 @@ fn own_flag(step: u8, f: Flags) -> bool
     f.aborted
 }
 
-// Busy cleared, the step's own flag set.
-fn flags_shown(step: u8, f: Flags) -> Flags
-    ensures { λ g. ⌜ g ≡ flagsShown step f ⌝ }
-{
-    Flags {
-        busy: false,
-        done: f.done | (step == Record::DONE),
-        error: f.error | (step == Record::ERROR),
-        aborted: f.aborted | (step == Record::ABORTED),
-    }
-}
-
 // The reset request: not start, which level Done leaves 0.
 fn request_shown(kind: u8, step: u8, start: bool) -> bool
     ensures { λ b. ⌜ b ≡ requestShown kind step start ⌝ }
@@ -39,12 +27,19 @@ fn request_shown(kind: u8, step: u8, start: bool) -> bool
     !((step == Record::DONE) & !kind::is_edge(kind)) & !start
 }
 
+// Busy cleared, the step's own flag set, and the reset request. Flag by flag: four flags set at once are one number to the compiler, which it takes apart again.
 fn shown(kind: u8, i: Inputs, mut r: Record) -> Record
     ensures { λ s. ⌜ s ≡ shown kind i r ⌝ }
 {
-    let flags = flags_shown(r.step, r.flags);
-    r.request = request_shown(kind, r.step, i.start);
-    r.flags = flags;
+    let step = r.step;
+    r.request = request_shown(kind, step, i.start);
+    let done = r.flags.done | (step == Record::DONE);
+    let error = r.flags.error | (step == Record::ERROR);
+    let aborted = r.flags.aborted | (step == Record::ABORTED);
+    r.flags.busy = false;
+    r.flags.done = done;
+    r.flags.error = error;
+    r.flags.aborted = aborted;
     r
 }
 

@@ -1,16 +1,13 @@
--- `shown` meets its contract: the record with the flags and the request that its callees give.
+-- `shown` meets its contract: the flags one by one, and the request that its callee gives.
 use borrow.Author.Needs.{needs}
 use Rattle.block.proofs.ended.shown.Statement.{statement}
 use Rattle.block.proofs.ended.shown.Tie as tie
-
-flags-shown-requires : tie.Need-flags-shown-requires
-flags-shown-requires c κs = search needs
 
 request-shown-requires : tie.Need-request-shown-requires
 request-shown-requires c κs = search needs
 
 returns : tie.Need-returns
-returns c = rw (c .before .flags-shown .ensures, c .request-shown .ensures)
+returns c = rw (c .before .before .before .before .before .before .before .request-shown .ensures)
 
 pub shown-spec : {M : Type 1} → statement M
-shown-spec = tie.close (tie.spec flags-shown-requires request-shown-requires returns)
+shown-spec = tie.close (tie.spec request-shown-requires returns)
