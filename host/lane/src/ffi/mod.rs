@@ -13,6 +13,7 @@ pub use table::{check, find};
 use crate::Refusal;
 
 /// An answer as the archive packs it: a value below 2^32, or number × 2^32 + place.
+#[inline]
 fn unpack(answer: u64) -> Result<u32, Refusal> {
     let low = answer as u32;
     match (answer >> 32) as u32 {

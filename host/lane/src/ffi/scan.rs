@@ -16,6 +16,7 @@ use crate::Refusal;
 ///
 /// # Errors
 /// Refusals 1 to 11, then 20 if the state's length is not 40 bytes a block.
+#[inline]
 pub fn fresh(image: &[u8], state: &mut [u8]) -> Result<u32, Refusal> {
     // SAFETY: pointers and lengths are those of slices borrowed for the whole call. The one that the
     // function writes is borrowed as mutable, so it shares no byte with the other.
@@ -40,6 +41,7 @@ pub fn fresh(image: &[u8], state: &mut [u8]) -> Result<u32, Refusal> {
 ///
 /// # Errors
 /// Refusals 1 to 11, then 20 to 41 by the state, the frame, the report and the journal.
+#[inline]
 pub fn scan(
     image: &[u8],
     state: &mut [u8],

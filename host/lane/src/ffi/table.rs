@@ -16,6 +16,7 @@ use crate::Refusal;
 ///
 /// # Errors
 /// Refusals 1 to 11.
+#[inline]
 pub fn check(image: &[u8]) -> Result<u32, Refusal> {
     // SAFETY: the pointer and the length are those of a slice borrowed for the whole call, in
     // which the function only reads.
@@ -35,6 +36,7 @@ pub fn check(image: &[u8]) -> Result<u32, Refusal> {
 ///
 /// # Errors
 /// Refusals 1 to 11, then 50 if the tag is not eight bytes in form and 51 if no block has it.
+#[inline]
 pub fn find(image: &[u8], tag: &[u8]) -> Result<u32, Refusal> {
     // SAFETY: the pointers and the lengths are those of slices borrowed for the whole call, in
     // which the function only reads.
