@@ -10,6 +10,7 @@ pub mod SoundLaws
 pub mod EventLaws
 pub mod TimeLaws
 pub mod IdleLaws
+pub mod WorkingLaws
 pub mod BlockInvariant
 pub mod WorkedExamples
 pub mod CallExamples

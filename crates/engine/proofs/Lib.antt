@@ -4,6 +4,7 @@ pub mod GridLaws
 pub mod ServedLaws
 pub mod ServeLaws
 pub mod IdleLaws
+pub mod WorkingLaws
 pub mod ServingLaws
 pub mod AnswerLaws
 pub mod RefusalLaws

@@ -4,6 +4,7 @@ use crate::idle::serve_idle;
 use crate::inputs::wired;
 use block::call::CallResult;
 use block::entry::Inputs;
+use block::record::Record;
 use image::MOST_SLOTS;
 use layout::entry::ENTRY_BYTES;
 use layout::entry::INPUTS_OFFSET;
@@ -19,7 +20,8 @@ ghost use Rattle.table.specs.Check.{Accepted};
 ghost use Rattle.table.specs.Blocks.{blocksOf, configAt};
 ghost use Rattle.block.specs.CallResult.{outcomeOf};
 ghost use Rattle.layout.specs.Buffer.{recordLength, entryLength, reportLength, eventLength, put};
-ghost use Rattle.layout.specs.ReportLayout.{encodeReport};
+ghost use Rattle.layout.specs.RecordLayout.{recordOffset, encodeTimer};
+ghost use Rattle.layout.specs.ReportLayout.{encodeReport, working};
 ghost use Rattle.layout.specs.EventLayout.{encodeEvents};
 ghost use Rattle.engine.specs.Inputs.{flagsIn, inputsOf};
 ghost use Rattle.engine.specs.Serve.{entryIn, callIn, written, served};
@@ -103,7 +105,20 @@ fn write_call(
     append_events(journal, events, (i + 1) as u8, a)
 }
 
-// The block at index i is served; the number of events now in the journal. An idle block goes to `serve_idle`, which gets the state only to read; any other is called.
+// The block at index i goes on working, its call having made one pass: of its record the timer is written, and its report entry. It has no event.
+fn write_working(i: usize, a: CallResult, state: &mut [u8], report: &mut [u8])
+    requires { ⌜ (recordLength * i + recordLength ≤ length (now state)) × (reportLength * i + reportLength ≤ length (now report)) ⌝ }
+    ensures state { λ _. ⌜ now (state .exit) ≡ put (recordLength * i + recordOffset .last) (encodeTimer (a .next .timer)) (now (state .entry)) ⌝ }
+    ensures report { λ _. ⌜ now (report .exit) ≡ put (reportLength * i) (encodeReport (working (a .used) (a .next .job))) (now (report .entry)) ⌝ }
+{
+    let timer = a.next.timer;
+    layout::record::put_timer(state, RECORD_BYTES * i, timer);
+    let place = REPORT_BYTES * i;
+    layout::report::write_working(&mut report[place..], a.used, a.next.job);
+}
+
+// The block at index i is served; the number of events now in the journal. An idle block goes to `serve_idle`, which gets the state only to read; any other is
+// called. Of one that goes on working only the timer is written, all else of its record being as it was.
 pub fn serve(
     image: &[u8],
     slots: &[u8; MOST_SLOTS],
@@ -129,5 +144,9 @@ pub fn serve(
     }
     let b = table::blocks::config_at(image, slots, positions, count, i);
     let a = call_at(b, i, frame, &state[..]);
+    if (a.passes == 1) & (a.next.step == Record::EXECUTING) {
+        write_working(i, a, state, report);
+        return events;
+    }
     write_call(i, a, state, report, journal, events)
 }

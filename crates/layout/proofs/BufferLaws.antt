@@ -1,6 +1,6 @@
--- One value written in a buffer: its length, the value read back, every other window and byte unchanged, values put one after another, two
--- buffers joined, and a part lent from a place on. Each law is stated once, over the place and the size: for the writers of this crate, for the
--- engine's loop over state, report and journal, and for every crate that writes a buffer.
+-- One value written in a buffer: its length, the value read back, every other window and byte unchanged, values put one after another, a
+-- value that differs only in its middle, two buffers joined, and a part lent from a place on. Each law is stated once, over the place and the size: for the
+-- writers of this crate, for the engine's loop over state, report and journal, and for every crate that writes a buffer.
 use Prim.Native.Nat.{ℕ, zero, suc, _+_, _-_, _*_, _≤_, _<_}
 use mathlib.Core.Path.{_≡_, refl, ap, sym, _∙_}
 use mathlib.Core.List.{List, [], _∷_, _++_, append-assoc, append-nil}
@@ -180,6 +180,27 @@ put-next at n v w s full fits = ap (λ (m : ℕ). put (at + m) w (put at v s)) (
 pub put-both : (at n : ℕ) (v w s s₁ s₂ : List ℕ) → length v ≡ n → at + n + length w ≤ length s → s₁ ≡ put at v s → s₂ ≡ put (at + n) w s₁
     → s₂ ≡ put at (v ++ w) s
 put-both at n v w s s₁ s₂ full fits e₁ e₂ = e₂ ∙ ap (put (at + n) w) e₁ ∙ put-next at n v w s full fits
+
+-- a value put where another stands that differs from it only in the middle: the middle put in its place
+pub put-middle : (at n : ℕ) (before old new after s : List ℕ) → length before ≡ n → length new ≡ length old
+    → take (length (before ++ (old ++ after))) (drop at s) ≡ before ++ (old ++ after) → at + length (before ++ (old ++ after)) ≤ length s
+    → put (at + n) new s ≡ put at (before ++ (new ++ after)) s
+put-middle at n before old new after s full same stands fits =
+    let size : ℕ = length (before ++ (old ++ after)) in
+    let ahead : List ℕ = take at s in
+    let rest : List ℕ = drop (at + size) s in
+    let split : s ≡ (ahead ++ before) ++ (old ++ (after ++ rest)) =
+    sym (take-append-drop at s)
+    ∙ ap (λ (l : List ℕ). ahead ++ l) (sym (take-append-drop size (drop at s)) ∙ (λ j. stands j ++ drop-drop size at s j))
+    ∙ rw (append-assoc before (old ++ after) rest, append-assoc old after rest) (sym (append-assoc ahead before (old ++ (after ++ rest)))) in
+    let l : length (ahead ++ before) ≡ at + n = length-append ahead before ∙ (λ j. length-take-le at s (omega arith) j + full j) in
+    let front : take (at + n) s ≡ ahead ++ before = ap (take (at + n)) split ∙ take-at (ahead ++ before) (old ++ (after ++ rest)) (at + n) l in
+    let back : drop (at + n + length new) s ≡ after ++ rest =
+    sym (drop-drop (length new) (at + n) s)
+    ∙ ap (drop (length new)) (ap (drop (at + n)) split ∙ drop-at (ahead ++ before) (old ++ (after ++ rest)) (at + n) l)
+    ∙ drop-at old (after ++ rest) (length new) (sym same) in
+    let sizes : length (before ++ (new ++ after)) ≡ size = simp (length-append, same) refl in
+    rw (front, back, sizes, append-assoc before (new ++ after) rest, append-assoc new after rest) (append-assoc ahead before (new ++ (after ++ rest)))
 
 -- two buffers, one after the other: a part of each, and a value put in each
 pub part-left : (size i : ℕ) (x y : List ℕ) → size * i + size ≤ length x → part size i (x ++ y) ≡ part size i x

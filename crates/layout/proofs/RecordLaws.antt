@@ -1,23 +1,26 @@
--- State records as bytes, and back: each undoes the other, and which bytes pass check 21. For the engine, which keeps records in the state buffer.
-use Prim.Native.Nat.{ℕ, _<_, _≤_}
+-- State records as bytes, and back: each undoes the other, what another timer changes, and which bytes pass check 21. For the engine, which keeps
+-- records in the state buffer.
+use Prim.Native.Nat.{ℕ, _+_, _<_, _≤_}
 use mathlib.Core.Path.{_≡_, refl, ap, sym, _∙_}
 use mathlib.Core.Bool.{true}
 use mathlib.Core.List.{List, [], _∷_}
 use native.Mathlib.Omega.{arith}
 use lib.Dec.{eqb, ltb, leb}
-use lib.ListN.{length, replicate}
+use lib.ListN.{length, take, drop, replicate}
 use borrow.Author.Tests.{ltb-true, leb-true, eqb-true, lt-ltb, le-leb}
 use Rattle.words.specs.Word.{Bytes, number, bytes, allZero, zeroAt}
 use Rattle.words.proofs.WordLaws.{number-of-bytes}
 use Rattle.block.specs.Record.{bit, freshRecord}
 use Rattle.block.specs.Sound.{sound}
 use Rattle.block.specs.declared.record.Record.{Record}
-use Rattle.layout.specs.Buffer.{recordLength, byteAt, jobWidth}
-use Rattle.layout.specs.RecordLayout.{flagsByte, recordOffset, encodeRecord, decodeRecord, recordForm, soundBytes}
+use Rattle.clock.specs.declared.Timer.{Timer}
+use Rattle.layout.specs.Buffer.{recordLength, byteAt, jobWidth, put}
+use Rattle.layout.specs.RecordLayout.{flagsByte, recordOffset, encodeRecord, decodeRecord, encodeTimer, recordForm, soundBytes}
 use Rattle.layout.proofs.Fits.{RecordFits}
 use Rattle.layout.proofs.BitLaws.{bit-le, bit-trip, bit-back, flags-bound, flags-trip, flags-back}
 use Rattle.membership.proofs.Logic.{and-left, and-right, and-join}
 use Rattle.block.proofs.Tests.{each}
+use Rattle.layout.proofs.BufferLaws.{put-middle}
 use Rattle.layout.proofs.FieldLaws.{field-back, field-last, zero-back, byte-back}
 
 pub encode-length : (r : Record) → length (encodeRecord r) ≡ recordLength
@@ -84,6 +87,16 @@ encode-decode s l b h =
 pub encode-form : (r : Record) → recordForm (encodeRecord r) ≡ true
 unfolding recordForm encodeRecord bytes allZero
 encode-form r = rw (lt-ltb (flagsByte (r .flags)) 16 (flags-bound (r .flags)), le-leb (bit (r .request)) 1 (bit-le (r .request)))
+
+-- a record with another timer, put where the record itself stands: the twelve bytes of the timer put in their place
+pub put-timer : (at : ℕ) (r : Record) (w : Timer) (s : List ℕ) → take recordLength (drop at s) ≡ encodeRecord r → at + recordLength ≤ length s
+    → put (at + recordOffset .last) (encodeTimer w) s
+    ≡ put at
+    (encodeRecord (record { step = r .step; flags = r .flags; request = r .request; job = r .job; code = r .code; limit = r .limit; timeout = r .timeout; timer = w })) s
+unfolding encodeRecord bytes
+put-timer at r w s stands fits =
+    let n : ℕ = recordOffset .last in
+    put-middle at n (take n (encodeRecord r)) (encodeTimer (r .timer)) (encodeTimer w) (bytes jobWidth (r .job)) s refl refl stands fits
 
 -- "Fresh is all zero."
 pub encode-fresh : encodeRecord freshRecord ≡ replicate recordLength 0

@@ -1,10 +1,14 @@
--- Report entries: their length, and what they state of a call. For the engine, and for the history of a block that is read off the report's bytes.
-use mathlib.Core.Path.{_≡_, refl}
+-- Report entries: their length, what they state of a call, and the entry of a block that goes on working. For the engine, and for the history of a block that is read off the report's bytes.
+use Prim.Native.Nat.{ℕ}
+use mathlib.Core.Path.{_≡_, refl, ap, sym, _∙_}
 use lib.ListN.{length}
 use Rattle.words.specs.Word.{bytes}
+use Rattle.clock.specs.declared.Timer.{Timer}
 use Rattle.block.specs.Call.{Outcome}
+use Rattle.block.specs.declared.record.Record.{Record}
+use Rattle.block.proofs.WorkingLaws.{running}
 use Rattle.layout.specs.Buffer.{reportLength}
-use Rattle.layout.specs.ReportLayout.{encodeReport, reportedPieces, reportedPasses}
+use Rattle.layout.specs.ReportLayout.{encodeReport, working, reportedPieces, reportedPasses}
 
 pub report-length : (o : Outcome) → length (encodeReport o) ≡ reportLength
 unfolding encodeReport bytes
@@ -17,3 +21,11 @@ reported-pieces o = refl
 pub reported-passes : (o : Outcome) → reportedPasses (encodeReport o) ≡ o .passes
 unfolding encodeReport
 reported-passes o = refl
+
+-- the entry of a call of one pass that leaves its block at Executing
+pub working-report : (o : Outcome) (j l t : ℕ) (w : Timer) → o .next ≡ running j l t w → o .passes ≡ 1
+    → encodeReport (working (o .used) (o .next .job)) ≡ encodeReport o
+unfolding encodeReport
+working-report o j l t w e one =
+    ap (λ (r : Record). encodeReport (working (o .used) (r .job))) e
+    ∙ sym (λ i. encodeReport (record { next = e i; events = o .events; used = o .used; passes = one i }))

@@ -5,6 +5,7 @@ use mathlib.Core.List.{List, [], _∷_, _++_}
 use lib.Dec.{eqb, ltb, leb}
 use lib.ListN.{replicate}
 use Rattle.words.specs.Word.{bytes, numberAt, zeroAt}
+use Rattle.clock.specs.declared.Timer.{Timer}
 use Rattle.block.specs.Record.{bit}
 use Rattle.block.specs.Sound.{sound}
 use Rattle.layout.specs.Buffer.{byteAt, jobWidth}
@@ -66,6 +67,10 @@ decodeRecord s =
       timeout = numberAt 4 s (recordOffset .timeout);
       timer = record { last = numberAt 4 s (recordOffset .last); elapsed = numberAt 8 s (recordOffset .elapsed) };
     }
+
+-- the timer within it: "20-23 last clock reading; 24-31 elapsed", for the contract of `put_timer`
+abbrev pub encodeTimer : Timer → List ℕ
+encodeTimer t = bytes 4 (t .last) ++ bytes 8 (t .elapsed)
 
 -- "request at most 1, unnamed bytes and bits zero"
 unfoldable pub recordForm : List ℕ → Bool

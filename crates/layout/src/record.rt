@@ -8,7 +8,7 @@ ghost use lib.ListN.{length, take};
 ghost use Rattle.words.specs.Word.{zeroAt};
 ghost use Rattle.block.specs.Record.{bit};
 ghost use Rattle.layout.specs.Buffer.{recordLength, put};
-ghost use Rattle.layout.specs.RecordLayout.{recordOffset, flagsByte, decodeFlags, encodeRecord, decodeRecord, recordForm, soundBytes};
+ghost use Rattle.layout.specs.RecordLayout.{recordOffset, flagsByte, decodeFlags, encodeRecord, decodeRecord, encodeTimer, recordForm, soundBytes};
 
 // Bytes of a state record, and where its fields begin.
 pub const RECORD_BYTES: usize = 40;
@@ -133,6 +133,30 @@ pub fn put_record(s: &mut [u8], at: usize, r: Record)
     let head = encode_head(r);
     bytes::copy(&head, &mut s[at..]);
     crate::job::put_job(s, at + JOB_OFFSET, r.job);
+}
+
+// Of the record that stands from the place `at` on, the timer is written.
+pub fn put_timer(s: &mut [u8], at: usize, timer: Timer)
+    requires { ⌜ at + recordLength ≤ length (now s) ⌝ }
+    ensures { λ _. ⌜ now (s .exit) ≡ put (at + recordOffset .last) (encodeTimer timer) (now (s .entry)) ⌝ }
+{
+    let last = words::u32_bytes(timer.last);
+    let elapsed = words::u64_bytes(timer.elapsed);
+    let b = [
+        last[0],
+        last[1],
+        last[2],
+        last[3],
+        elapsed[0],
+        elapsed[1],
+        elapsed[2],
+        elapsed[3],
+        elapsed[4],
+        elapsed[5],
+        elapsed[6],
+        elapsed[7],
+    ];
+    bytes::copy(&b, &mut s[at + LAST_OFFSET..]);
 }
 
 // The unnamed bytes and bits, and the request.
