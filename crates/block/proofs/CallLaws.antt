@@ -1,5 +1,6 @@
 -- A call from a sound record, as it is computed, is a whole call by the rules: passes that go on again and a last one that stops, at most
--- six, with at most two events; and a call has one outcome. For the proof of `call` and for the laws of histories.
+-- six, with at most two events; and a call has one outcome. For the laws of histories and, with the
+-- rank that each pass lowers (`call-falls`), for CallPhases.
 use Prim.Native.Nat.{ℕ, zero, suc, _+_, _≤_}
 use native.Mathlib.Omega.{arith}
 use mathlib.Core.Bool.{Bool, true, false}
@@ -18,7 +19,7 @@ use Rattle.block.proofs.Tests.{choose, never}
 use Rattle.block.proofs.Shapes.{Shape, settled, settled-of}
 use Rattle.block.proofs.Passes.{room, passed, rank-least, rank-most, room-most}
 
--- a whole call with the passes and events that the record has left
+-- a falling call with the passes and events that the record has left
 record Ranked (k : ℕ) (i : Inputs) (e : Entry) (r : Record) (o : Outcome) : Type 0 where
   called : Falling k i e r o
   passes : o .passes ≤ rank r

@@ -1,5 +1,5 @@
 -- A call as the phases of the code make it: an account to which one pass after the other is added, in descending rank. For the proofs of `call` and its phases.
-use Prim.Native.Nat.{ℕ, suc, _+_, _*_, _≤_, _<_}
+use Prim.Native.Nat.{ℕ, suc, _+_, _≤_, _<_}
 use native.Mathlib.Omega.{arith}
 use native.Mathlib.Nat.{add-assoc, zero-add}
 use mathlib.Core.Bool.{Bool, true, false, cond, not, _&&_, _||_}
@@ -165,7 +165,7 @@ rank-last r f =
 rule-at : (k : ℕ) (i : Inputs) (e : Entry) (r : Record) (n : ℕ) → r .step ≡ n → rule n k i e r ≡ pass k i e r
 rule-at k i e r n h = sym (ap (λ (m : ℕ). rule m k i e r) h)
 
--- and so in each phase
+-- and so in each phase, which gives the call
 module _ {k : ℕ} {i : Inputs} {e : Entry} {n : ℕ} {a : CallResult} (l : Phase k i e n a) where
   pub pass-resetting : a .next .step ≡ Resetting → resetting e (a .next) ≡ pass k i e (a .next)
   unfolding rule

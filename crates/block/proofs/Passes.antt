@@ -52,12 +52,16 @@ room r =
 unfoldable pub openIn : Record → Option ℕ
 openIn r = cond (not (eqb (r .step) Resetting) && r .flags .busy) (some (r .job)) none
 
--- a pass that stops in Executing
+-- a record at Executing between calls, by what such records differ in
+abbrev pub running : ℕ → ℕ → ℕ → Timer → Record
+running j l t w = rec Executing busy false j 0 l t w
+
+-- a pass that stops in Executing: it came from there, nothing of the record changes but the timer, and it has no event
 pub record Halts (k : ℕ) (e : Entry) (r : Record) (p : Pass) : Type 0 where
-  pub came : r .step ≡ Executing
-  pub quiet : hasStart (emitted (p .event)) ≡ false
+  pub before : r ≡ running (r .job) (r .limit) (r .timeout) (r .timer)
+  pub after : p .next ≡ running (r .job) (r .limit) (r .timeout) (p .next .timer)
+  pub quiet : emitted (p .event) ≡ []
   pub timer : p .next .timer ≡ tickAll (tick (r .timer) (e .clock)) (take (p .used) (clocksOf (e .pieces)))
-  pub timeout : p .next .timeout ≡ r .timeout
   pub inTime : pastTimeOut (timeOutOf k e (p .next)) (p .next .timer) ≡ false
 
 -- a pass that goes on: it starts a job, it leaves for a step from which no start comes, or it only resets
@@ -188,7 +192,7 @@ module _ (k : ℕ) (i : Inputs) (e : Entry) where
           lower = no-case;
           goes = no-case;
           rests = λ _. s;
-          halts = λ _ _. record { came = refl; quiet = refl; timer = f .timer; timeout = refl; inTime = late };
+          halts = λ _ _. record { before = refl; after = refl; quiet = refl; timer = f .timer; inTime = late };
         })))
 
     from-runs : Passed k e run (executing k i e run)

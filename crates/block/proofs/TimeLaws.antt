@@ -11,6 +11,7 @@ use lib.ListN.{take}
 use Rattle.clock.specs.Clock.{clockModulus, mostElapsed, outOfStep, start, tick}
 use Rattle.clock.specs.declared.Timer.{Timer}
 use Rattle.clock.proofs.ClockLaws.{tick-held, tick-start, tick-out-of-step, tick-in-step, in-time}
+use Rattle.block.specs.Event.{emitted}
 use Rattle.block.specs.Record.{Executing}
 use Rattle.block.specs.Entry.{entryFits}
 use Rattle.block.specs.Dormant.{timeOutTaken}
@@ -69,9 +70,12 @@ module _ (k : ℕ) (i : Inputs) (e : Entry) (fits : e .clock < clockModulus) whe
       (λ h. let z : ⊥ = omega (arith, rank-executing (p .next) (y .came h)) in absurd z)
 
   timing : {r : Record} {o : Outcome} → Shape k (entryFits e ≡ true) r → Call k i e r o → o .next .step ≡ Executing → Timing k e r o
+  unfolding hasStart
   timing s (stops r h) x =
       let p = passed k i e s .halts h x in
-      record { came = λ _. p .came; timer = rw (p .quiet) (p .timer); timeout = rw (p .quiet) (p .timeout); inTime = in-time _ _ (p .inTime) }
+      let quiet : hasStart (emitted (pass k i e r .event)) ≡ false = ap hasStart (p .quiet) in
+      let timeout : pass k i e r .next .timeout ≡ r .timeout = ap (λ (x : Record). x .timeout) (p .after) in
+      record { came = λ _. ap (λ (x : Record). x .step) (p .before); timer = rw quiet (p .timer); timeout = rw quiet timeout; inTime = in-time _ _ (p .inTime) }
   timing s (goes r o h c) x =
       let p = passed k i e s in
       joined r (pass k i e r) o (p .goes h) (events (p .after) c) (timing (p .after) c x)

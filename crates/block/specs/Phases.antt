@@ -42,7 +42,7 @@ pub record Phase (k : ℕ) (i : Inputs) (e : Entry) (n : ℕ) (a : CallResult) :
   pub passes : a .passes + rest .passes ≤ 6
   pub events : a .count + length (rest .events) ≤ 2
 
--- an outcome after another
+-- the outcome a, and o after it
 abbrev pub joined : Outcome → Outcome → Outcome
 joined a o = record { next = o .next; events = a .events ++ o .events; used = a .used + o .used; passes = a .passes + o .passes }
 

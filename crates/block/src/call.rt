@@ -99,9 +99,8 @@ impl CallResult {
     }
 }
 
-// One call of a block from a sound record. Its passes come in phases, in the one order in which a call can come to the
-// steps: each phase makes the pass of its step, if that is the step, and the next one goes on. A loop over the passes would
-// keep the account in memory, and a rule that is called from more places would not be inlined.
+// One call of a block from a sound record, in phases: an end step that is shown, Resetting, Dormant, Executing, Aborting, and a
+// last pass. A pass that goes on lowers the rank (specs/Phases.antt), so no call comes back to a phase.
 pub fn call(kind: u8, i: Inputs, e: PackedEntry, r: Record) -> CallResult
     requires { ⌜ (e .count ≤ mostPieces) × (sound kind r ≡ true) ⌝ }
     ensures whole { λ a. ⌜ Call kind i (entryOf e) r (outcomeOf a) ⌝ }

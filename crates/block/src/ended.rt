@@ -27,7 +27,7 @@ fn request_shown(kind: u8, step: u8, start: bool) -> bool
     !((step == Record::DONE) & !kind::is_edge(kind)) & !start
 }
 
-// Busy cleared, the step's own flag set, and the reset request. Flag by flag: four flags set at once are one number to the compiler, which it takes apart again.
+// Busy cleared, the step's own flag set, and the reset request.
 fn shown(kind: u8, i: Inputs, mut r: Record) -> Record
     ensures { λ s. ⌜ s ≡ shown kind i r ⌝ }
 {

@@ -9,5 +9,5 @@ pub mod executing;
 pub mod ended; // Done, Error and Aborted
 pub mod aborting;
 pub mod resetting;
-pub mod call; // passes until one stops, each step's test once in order
+pub mod call; // passes until one stops, in phases
 pub mod idle; // which blocks need no call

@@ -9,7 +9,7 @@ use Rattle.words.specs.Word.{Bytes}
 use Rattle.table.specs.declared.blocks.BlockConfig.{BlockConfig}
 use Rattle.layout.specs.Buffer.{recordLength, reportLength, eventLength, part, put}
 use Rattle.layout.specs.RecordLayout.{recordOffset, encodeRecord, encodeTimer}
-use Rattle.layout.specs.ReportLayout.{encodeReport, working}
+use Rattle.layout.specs.ReportLayout.{encodeReport, workingReport}
 use Rattle.layout.specs.EventLayout.{encodeEvents}
 use Rattle.layout.proofs.BufferLaws.{put-nothing, part-length, part-bytes}
 use Rattle.layout.proofs.RecordLaws.{encode-decode, sound-form, sound-record, put-timer}
@@ -19,7 +19,8 @@ use Rattle.block.specs.CallResult.{outcomeOf}
 use Rattle.block.specs.declared.record.Record.{Record}
 use Rattle.block.specs.declared.event.Event.{Event}
 use Rattle.block.specs.declared.call.CallResult.{CallResult}
-use Rattle.block.proofs.WorkingLaws.{running, Working, working-call}
+use Rattle.block.proofs.Passes.{running}
+use Rattle.block.proofs.WorkingLaws.{Working, working-call}
 use Rattle.engine.specs.Inputs.{flagsIn, inputsOf}
 use Rattle.engine.specs.Serve.{Buffers, recordIn, entryIn, callIn, served}
 use Rattle.engine.specs.Callable.{Callable}
@@ -54,12 +55,12 @@ module _ (b : BlockConfig) (i : ℕ) (frame : List ℕ) (x : Buffers) (a : CallR
 
   pub working-served : (state report : List ℕ)
       → state ≡ put (recordLength * i + recordOffset .last) (encodeTimer (a .next .timer)) (x .state)
-      → report ≡ put (reportLength * i) (encodeReport (working (a .used) (a .next .job))) (x .report)
+      → report ≡ put (reportLength * i) (workingReport (a .used) (a .next .job)) (x .report)
       → _≡_ {A = Buffers} (record { state = state; report = report; journal = x .journal; events = x .events }) (served b i frame x)
   unfolding encodeEvents
   working-served state report es er =
       let o = outcomeOf a in
-      let reported : encodeReport (working (a .used) (a .next .job)) ≡ encodeReport o = working-report o (r .job) (r .limit) (r .timeout) (a .next .timer) (keeps .after) one in
+      let reported : workingReport (a .used) (a .next .job) ≡ encodeReport o = working-report o (r .job) (r .limit) (r .timeout) (a .next .timer) (keeps .after) one in
       let quiet : o .events ≡ [] = keeps .quiet in
       let events : x .events ≡ x .events + length (o .events) = sym (ap (λ (e : List Event). x .events + length e) quiet ∙ add-zero (x .events)) in
       let journal : x .journal ≡ put (eventLength * x .events) (encodeEvents (suc i) (o .events)) (x .journal) =

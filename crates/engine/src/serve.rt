@@ -21,7 +21,7 @@ ghost use Rattle.table.specs.Blocks.{blocksOf, configAt};
 ghost use Rattle.block.specs.CallResult.{outcomeOf};
 ghost use Rattle.layout.specs.Buffer.{recordLength, entryLength, reportLength, eventLength, put};
 ghost use Rattle.layout.specs.RecordLayout.{recordOffset, encodeTimer};
-ghost use Rattle.layout.specs.ReportLayout.{encodeReport, working};
+ghost use Rattle.layout.specs.ReportLayout.{encodeReport, workingReport};
 ghost use Rattle.layout.specs.EventLayout.{encodeEvents};
 ghost use Rattle.engine.specs.Inputs.{flagsIn, inputsOf};
 ghost use Rattle.engine.specs.Serve.{entryIn, callIn, written, served};
@@ -109,12 +109,12 @@ fn write_call(
 fn write_working(i: usize, a: CallResult, state: &mut [u8], report: &mut [u8])
     requires { ⌜ (recordLength * i + recordLength ≤ length (now state)) × (reportLength * i + reportLength ≤ length (now report)) ⌝ }
     ensures state { λ _. ⌜ now (state .exit) ≡ put (recordLength * i + recordOffset .last) (encodeTimer (a .next .timer)) (now (state .entry)) ⌝ }
-    ensures report { λ _. ⌜ now (report .exit) ≡ put (reportLength * i) (encodeReport (working (a .used) (a .next .job))) (now (report .entry)) ⌝ }
+    ensures report { λ _. ⌜ now (report .exit) ≡ put (reportLength * i) (workingReport (a .used) (a .next .job)) (now (report .entry)) ⌝ }
 {
     let timer = a.next.timer;
     layout::record::put_timer(state, RECORD_BYTES * i, timer);
     let place = REPORT_BYTES * i;
-    layout::report::write_working(&mut report[place..], a.used, a.next.job);
+    layout::report::write_working_report(&mut report[place..], a.used, a.next.job);
 }
 
 // The block at index i is served; the number of events now in the journal. An idle block goes to `serve_idle`, which gets the state only to read; any other is

@@ -6,9 +6,9 @@ use Rattle.words.specs.Word.{bytes}
 use Rattle.clock.specs.declared.Timer.{Timer}
 use Rattle.block.specs.Call.{Outcome}
 use Rattle.block.specs.declared.record.Record.{Record}
-use Rattle.block.proofs.WorkingLaws.{running}
+use Rattle.block.proofs.Passes.{running}
 use Rattle.layout.specs.Buffer.{reportLength}
-use Rattle.layout.specs.ReportLayout.{encodeReport, working, reportedPieces, reportedPasses}
+use Rattle.layout.specs.ReportLayout.{encodeReport, workingReport, reportedPieces, reportedPasses}
 
 pub report-length : (o : Outcome) → length (encodeReport o) ≡ reportLength
 unfolding encodeReport bytes
@@ -24,8 +24,12 @@ reported-passes o = refl
 
 -- the entry of a call of one pass that leaves its block at Executing
 pub working-report : (o : Outcome) (j l t : ℕ) (w : Timer) → o .next ≡ running j l t w → o .passes ≡ 1
-    → encodeReport (working (o .used) (o .next .job)) ≡ encodeReport o
-unfolding encodeReport
+    → workingReport (o .used) (o .next .job) ≡ encodeReport o
+unfolding encodeReport bytes
 working-report o j l t w e one =
-    ap (λ (r : Record). encodeReport (working (o .used) (r .job))) e
+    ap (λ (r : Record). workingReport (o .used) (r .job)) e
     ∙ sym (λ i. encodeReport (record { next = e i; events = o .events; used = o .used; passes = one i }))
+
+pub working-length : (used job : ℕ) → length (workingReport used job) ≡ reportLength
+unfolding bytes
+working-length used job = refl

@@ -1,6 +1,5 @@
 -- Document 01, "Report and journal", with the job as document 02, 3/14 has it: what a call leaves, as its bytes of the report.
 use Prim.Native.Nat.{ℕ}
-use mathlib.Core.Bool.{true, false}
 use mathlib.Core.List.{List, [], _∷_, _++_}
 use lib.ListN.{replicate}
 use Rattle.words.specs.Word.{bytes}
@@ -34,22 +33,6 @@ reportedPieces s = byteAt s (reportOffset .used)
 abbrev pub reportedPasses : List ℕ → ℕ
 reportedPasses s = byteAt s (reportOffset .passes)
 
--- a call of one pass that leaves its block at Executing, busy alone, as far as a report entry states it: for the contract of `write_working`
-abbrev pub working : ℕ → ℕ → Outcome
-working used job =
-    record {
-      next =
-          record {
-            step = Executing;
-            flags = record { busy = true; done = false; error = false; aborted = false };
-            request = false;
-            job = job;
-            code = 0;
-            limit = 0;
-            timeout = 0;
-            timer = record { last = 0; elapsed = 0 };
-          };
-      events = [];
-      used = used;
-      passes = 1;
-    }
+-- the entry of a call of one pass that leaves its block at Executing: busy alone, the pieces used, one pass, no code. For the contract of `write_working_report`
+abbrev pub workingReport : ℕ → ℕ → List ℕ
+workingReport used job = (1 ∷ used ∷ 1 ∷ Executing ∷ []) ++ (replicate 4 0 ++ bytes jobWidth job)

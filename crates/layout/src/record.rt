@@ -182,10 +182,13 @@ fn record_zero(s: &[u8]) -> bool
         & (words::u64_at(s, JOB_OFFSET) == 0)
 }
 
-// The first eight bytes of a record at Executing, as one number: the step, of the flags busy alone, no request, no unnamed byte set.
-const EXECUTING_HEAD: u64 = Record::EXECUTING as u64 + 256;
+// The byte of flags that has busy alone.
+pub const BUSY_ALONE: u8 = 1;
 
-// Check 21 of one record: Dormant is all zero; Executing has that head, then no code and its times; else the form, then the fields.
+// The first eight bytes of a sound record at Executing, as one number: the step and busy alone; no request, unnamed bytes zero.
+const EXECUTING_HEAD: u64 = Record::EXECUTING as u64 + 256 * BUSY_ALONE as u64;
+
+// Check 21 of one record: Dormant is all zero; with the head of Executing, code and unnamed pair are zero and the times sound; else the form, then the fields.
 pub fn sound_bytes(kind: u8, s: &[u8]) -> bool
     requires { ⌜ recordLength ≤ length (now s) ⌝ }
     ensures { λ r. ⌜ r ≡ soundBytes kind (now (s .entry)) ⌝ }

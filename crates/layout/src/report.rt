@@ -1,4 +1,5 @@
 // A report entry as bytes.
+use crate::record::BUSY_ALONE;
 use block::call::CallResult;
 use block::record::Record;
 ghost use mathlib.Core.Path.{_≡_};
@@ -7,7 +8,7 @@ ghost use Prim.Native.Nat.{_≤_};
 ghost use lib.ListN.{length, take, drop};
 ghost use Rattle.block.specs.CallResult.{outcomeOf};
 ghost use Rattle.layout.specs.Buffer.{reportLength};
-ghost use Rattle.layout.specs.ReportLayout.{reportOffset, encodeReport, working};
+ghost use Rattle.layout.specs.ReportLayout.{reportOffset, encodeReport, workingReport};
 
 // Bytes of a report entry.
 pub const REPORT_BYTES: usize = 16;
@@ -51,13 +52,10 @@ pub fn write_report(out: &mut [u8], a: CallResult)
     crate::job::put_job(out, JOB_OFFSET, a.next.job);
 }
 
-// The byte of flags that has busy alone.
-const BUSY_ALONE: u8 = 1;
-
 // The first bytes of what is lent become the entry of a call of one pass that leaves its block at Executing: busy alone, no code.
-pub fn write_working(out: &mut [u8], used: u8, job: u64)
+pub fn write_working_report(out: &mut [u8], used: u8, job: u64)
     requires { ⌜ reportLength ≤ length (now out) ⌝ }
-    ensures { λ _. ⌜ now (out .exit) ≡ encodeReport (working used job) ++ drop reportLength (now (out .entry)) ⌝ }
+    ensures { λ _. ⌜ now (out .exit) ≡ workingReport used job ++ drop reportLength (now (out .entry)) ⌝ }
 {
     let head = [BUSY_ALONE, used, 1, Record::EXECUTING, 0, 0, 0, 0];
     bytes::copy(&head, out);

@@ -1,6 +1,6 @@
 -- Laws of the spare slots: sixteen zeros by two numbers, for the proof of spare::slot_zero; that there are none where the chain has all slots, and what the
 -- loop of spare::check_spares keeps, for its proof.
-use Prim.Native.Nat.{ℕ, zero, suc, _+_, _-_, _*_, _≤_, _<_}
+use Prim.Native.Nat.{ℕ, zero, suc, _+_, _-_, _≤_, _<_}
 use mathlib.Core.Path.{_≡_, refl, sym, _∙_}
 use mathlib.Core.List.{List}
 use mathlib.Core.Bool.{true, false, _&&_}

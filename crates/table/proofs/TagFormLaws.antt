@@ -1,5 +1,5 @@
 -- What the form of a tag means, place by place: the theorems that specs/Tag.antt states, for whoever cites what the tags of an accepted table are
--- and whoever writes one.
+-- and whoever writes one. `space-is-none` is for TagNumberLaws too.
 use Prim.Native.Nat.{ℕ, zero, suc, _+_, _≤_, _<_}
 use mathlib.Core.Path.{_≡_, refl, ap, sym, _∙_}
 use mathlib.Core.List.{List, [], _∷_}

@@ -1,4 +1,4 @@
--- Laws of tags: the form by its length and its first byte; tags compared by their numbers, for the record checks and for find. Only here is `tagForm`
+-- Laws of tags: the form by its length and its first byte, for TagFormLaws and TagNumberLaws; tags compared by their numbers, for the record checks and for find. Only here is `tagForm`
 -- taken apart, and `tagChar` only in the laws of single bytes of TagFormLaws and TagNumberLaws; what is computed unfolds both.
 use Prim.Native.Nat.{ℕ, _+_, _≤_}
 use mathlib.Core.Path.{_≡_, refl, ap, sym}

@@ -14,6 +14,7 @@ use lib.Bits.{bitAnd, bitOr, bitXor, and-block, or-block, xor-block, and-lt, or-
 use Rattle.words.specs.Word.{Bytes, number, bytes}
 use Rattle.words.proofs.WordLaws.{length-bytes, bytes-bytes, number-of-bytes, bytes-number}
 use Rattle.membership.proofs.Logic.{by-test, not-both, same, and-left, and-right, and-join}
+use Rattle.membership.proofs.MembershipLaws.{throughout, equals, agree, in-range}
 use Rattle.image.specs.Image.{tagLength}
 use Rattle.table.specs.Tag.{tagChar, spaces, padded, tagForm}
 use Rattle.table.proofs.TagLaws.{form-first, form-eight}
@@ -50,9 +51,9 @@ unfoldable pub repeated : ℕ → ℕ → ℕ
 repeated k zero = 0
 repeated k (suc n) = k + 256 * repeated k n
 
--- what tag::within computes
-unfoldable pub range : ℕ → ℕ → ℕ → ℕ → ℕ
-range least most x bytes = bitXor (x + (128 - least) * bytes) (x + (127 - most) * bytes)
+-- what tag::range_marks computes
+unfoldable pub rangeMarks : ℕ → ℕ → ℕ → ℕ → ℕ
+rangeMarks least most x bytes = bitXor (x + (128 - least) * bytes) (x + (127 - most) * bytes)
 
 sum-cons : (a x n k m : ℕ) → (x + 256 * n) + a * (k + 256 * m) ≡ (x + a * k) + 256 * (n + a * m)
 sum-cons a x n k m =
@@ -70,27 +71,27 @@ module _ (least most x k : ℕ) (h : x < 128) (l : k ≤ 1) where
   high-sum : x + (127 - most) * k < 256
   high-sum = sum-lt (127 - most) x k (omega arith) h l
 
-  range-lt : range least most x k < 256
-  unfolding range
+  range-lt : rangeMarks least most x k < 256
+  unfolding rangeMarks
   range-lt = xor-lt 8 (x + (128 - least) * k) (x + (127 - most) * k) low-sum high-sum
 
-  range-cons : (n m : ℕ) → range least most (x + 256 * n) (k + 256 * m) ≡ range least most x k + 256 * range least most n m
-  unfolding range
+  range-cons : (n m : ℕ) → rangeMarks least most (x + 256 * n) (k + 256 * m) ≡ rangeMarks least most x k + 256 * rangeMarks least most n m
+  unfolding rangeMarks
   range-cons n m =
       rw (sum-cons (128 - least) x n k m, sum-cons (127 - most) x n k m)
       (xor-cons (x + (128 - least) * k) (n + (128 - least) * m) (x + (127 - most) * k) (n + (127 - most) * m) low-sum high-sum)
 
 -- the marks of the characters: letters and digits where `every` has a one, underscores where `later` has
 unfoldable pub characters : ℕ → ℕ → ℕ → ℕ
-characters x every later = bitOr (bitOr (range 65 90 x every) (range 48 57 x every)) (range 95 95 x later)
+characters x every later = bitOr (bitOr (rangeMarks 65 90 x every) (rangeMarks 48 57 x every)) (rangeMarks 95 95 x later)
 
 module _ (x e k : ℕ) (h : x < 128) (i : e ≤ 1) (l : k ≤ 1) where
-  some-lt : bitOr (range 65 90 x e) (range 48 57 x e) < 256
-  some-lt = or-lt 8 (range 65 90 x e) (range 48 57 x e) (range-lt 65 90 x e h i) (range-lt 48 57 x e h i)
+  some-lt : bitOr (rangeMarks 65 90 x e) (rangeMarks 48 57 x e) < 256
+  some-lt = or-lt 8 (rangeMarks 65 90 x e) (rangeMarks 48 57 x e) (range-lt 65 90 x e h i) (range-lt 48 57 x e h i)
 
   characters-lt : characters x e k < 256
   unfolding characters
-  characters-lt = or-lt 8 (bitOr (range 65 90 x e) (range 48 57 x e)) (range 95 95 x k) some-lt (range-lt 95 95 x k h l)
+  characters-lt = or-lt 8 (bitOr (rangeMarks 65 90 x e) (rangeMarks 48 57 x e)) (rangeMarks 95 95 x k) some-lt (range-lt 95 95 x k h l)
 
   characters-cons : (n m o : ℕ) → characters (x + 256 * n) (e + 256 * m) (k + 256 * o) ≡ characters x e k + 256 * characters n m o
   unfolding characters
@@ -99,46 +100,34 @@ module _ (x e k : ℕ) (h : x < 128) (i : e ≤ 1) (l : k ≤ 1) where
         range-cons 65 90 x e h i n m,
         range-cons 48 57 x e h i n m,
         range-cons 95 95 x k h l n o,
-        or-cons (range 65 90 x e) (range 65 90 n m) (range 48 57 x e) (range 48 57 n m) (range-lt 65 90 x e h i) (range-lt 48 57 x e h i),
+        or-cons (rangeMarks 65 90 x e) (rangeMarks 65 90 n m) (rangeMarks 48 57 x e) (rangeMarks 48 57 n m) (range-lt 65 90 x e h i) (range-lt 48 57 x e h i),
       )
-      (or-cons (bitOr (range 65 90 x e) (range 48 57 x e)) (bitOr (range 65 90 n m) (range 48 57 n m)) (range 95 95 x k) (range 95 95 n o)
+      (or-cons (bitOr (rangeMarks 65 90 x e) (rangeMarks 48 57 x e)) (bitOr (rangeMarks 65 90 n m) (rangeMarks 48 57 n m)) (rangeMarks 95 95 x k) (rangeMarks 95 95 n o)
       some-lt (range-lt 95 95 x k h l))
 
--- two functions that agree below n
-below : ℕ → (ℕ → Bool) → Bool
-below zero p = true
-below (suc n) p = p n && below n p
-
-below-at : (n : ℕ) (p : ℕ → Bool) → below n p ≡ true → (k : ℕ) → k < n → p k ≡ true
-unfolding below
-below-at zero p h k l = absurd (omega arith)
-below-at (suc n) p h k l =
-    by-test (eqb k n)
-    (λ e. let z : k ≡ n = eqb-true k n e in rw z (and-left _ _ h))
-    (λ e. below-at n p (and-right (p n) _ h) k (omega (arith, eqb-false k n e)))
-
-agree : (n : ℕ) (f g : ℕ → ℕ) → below n (λ b. eqb (f b) (g b)) ≡ true → (b : ℕ) → b < n → f b ≡ g b
-agree n f g t b h = eqb-true (f b) (g b) (below-at n (λ b. eqb (f b) (g b)) t b h)
+-- two functions that are computed to agree on the numbers below n
+same-below : (n : ℕ) (f g : ℕ → ℕ) → throughout (agree true (λ b. eqb (f b) (g b))) 0 n ≡ true → (b : ℕ) → b < n → f b ≡ g b
+same-below n f g t b h = eqb-true (f b) (g b) (sym (in-range true (λ b. eqb (f b) (g b)) 0 n t b (omega arith) (omega arith)))
 
 abbrev bit : Bool → ℕ
 bit b = cond b 1 0
 
 -- bit 7 of the marks of one byte, the first one and a later one
 first-character : (b : ℕ) → b < 128 → characters b 1 0 / 128 ≡ bit (tagChar 0 b)
-unfolding below characters range tagChar
-first-character = agree 128 (λ b. characters b 1 0 / 128) (λ b. bit (tagChar 0 b)) refl
+unfolding characters rangeMarks tagChar agree equals
+first-character = same-below 128 (λ b. characters b 1 0 / 128) (λ b. bit (tagChar 0 b)) refl
 
 later-character : (b : ℕ) → b < 128 → characters b 1 1 / 128 ≡ bit (tagChar 1 b)
-unfolding below characters range tagChar
-later-character = agree 128 (λ b. characters b 1 1 / 128) (λ b. bit (tagChar 1 b)) refl
+unfolding characters rangeMarks tagChar agree equals
+later-character = same-below 128 (λ b. characters b 1 1 / 128) (λ b. bit (tagChar 1 b)) refl
 
-first-space : (b : ℕ) → b < 128 → range 32 32 b 0 / 128 ≡ bit false
-unfolding below range
-first-space = agree 128 (λ b. range 32 32 b 0 / 128) (λ b. bit false) refl
+first-space : (b : ℕ) → b < 128 → rangeMarks 32 32 b 0 / 128 ≡ bit false
+unfolding rangeMarks agree equals
+first-space = same-below 128 (λ b. rangeMarks 32 32 b 0 / 128) (λ b. bit false) refl
 
-later-space : (b : ℕ) → b < 128 → range 32 32 b 1 / 128 ≡ bit (eqb b 0x20)
-unfolding below range
-later-space = agree 128 (λ b. range 32 32 b 1 / 128) (λ b. bit (eqb b 0x20)) refl
+later-space : (b : ℕ) → b < 128 → rangeMarks 32 32 b 1 / 128 ≡ bit (eqb b 0x20)
+unfolding rangeMarks agree equals
+later-space = same-below 128 (λ b. rangeMarks 32 32 b 1 / 128) (λ b. bit (eqb b 0x20)) refl
 
 -- bit 7 alone
 high-bit : (n : ℕ) → n < 256 → bitAnd n 128 ≡ n / 128 * 128
@@ -209,7 +198,7 @@ abbrev charactersOf : List ℕ → ℕ
 charactersOf t = characters (number t) (ones t) (ones t)
 
 abbrev spacesOf : List ℕ → ℕ
-spacesOf t = range 32 32 (number t) (ones t)
+spacesOf t = rangeMarks 32 32 (number t) (ones t)
 
 low-first : (b : ℕ) (t : List ℕ) → low (b ∷ t) ≡ true → b < 128
 unfolding low
@@ -241,12 +230,12 @@ low-most [] l = omega arith
 low-most (b ∷ t) l = omega (arith, low-first b t l, low-most t (low-rest b t l))
 
 legal-is : (t : List ℕ) → low t ≡ true → eqb (bitAnd (bitOr (charactersOf t) (spacesOf t)) (highs t)) (highs t) ≡ legal t
-unfolding number repeated legal characters range
+unfolding number repeated legal characters rangeMarks
 legal-is [] l = refl
 legal-is (b ∷ t) l =
     let h : b < 128 = low-first b t l in
     rw (characters-cons b 1 1 h (omega arith) (omega arith) (number t) (ones t) (ones t), range-cons 32 32 b 1 h (omega arith) (number t) (ones t))
-    (marked-cons (tagChar 1 b) (eqb b 0x20) (characters b 1 1) (range 32 32 b 1)
+    (marked-cons (tagChar 1 b) (eqb b 0x20) (characters b 1 1) (rangeMarks 32 32 b 1)
     (characters-lt b 1 1 h (omega arith) (omega arith)) (range-lt 32 32 b 1 h (omega arith)) (later-character b h) (later-space b h)
     (charactersOf t) (spacesOf t) (highs t)
     ∙ rw (legal-is t (low-rest b t l)))
@@ -254,22 +243,22 @@ legal-is (b ∷ t) l =
 -- s: the mark of a space on the byte before
 ordered-is : (t : List ℕ) (after : Bool) (s : ℕ) → low t ≡ true → s < 256 → s / 128 ≡ bit after
     → eqb (bitAnd (bitAnd (charactersOf t) (s + 256 * spacesOf t)) (repeated 128 (suc (length t)))) 0 ≡ ordered after t
-unfolding number repeated ordered characters range
+unfolding number repeated ordered characters rangeMarks
 ordered-is [] after s l k e = refl
 ordered-is (b ∷ t) after s l k e =
     let h : b < 128 = low-first b t l in
-    let i : range 32 32 b 1 < 256 = range-lt 32 32 b 1 h (omega arith) in
+    let i : rangeMarks 32 32 b 1 < 256 = range-lt 32 32 b 1 h (omega arith) in
     rw (characters-cons b 1 1 h (omega arith) (omega arith) (number t) (ones t) (ones t), range-cons 32 32 b 1 h (omega arith) (number t) (ones t))
     (unmarked-cons (tagChar 1 b) after (characters b 1 1) s
     (characters-lt b 1 1 h (omega arith) (omega arith)) k (later-character b h) e
-    (charactersOf t) (range 32 32 b 1 + 256 * spacesOf t) (repeated 128 (suc (length t)))
-    ∙ rw (ordered-is t (eqb b 0x20) (range 32 32 b 1) (low-rest b t l) i (later-space b h)))
+    (charactersOf t) (rangeMarks 32 32 b 1 + 256 * spacesOf t) (repeated 128 (suc (length t)))
+    ∙ rw (ordered-is t (eqb b 0x20) (rangeMarks 32 32 b 1) (low-rest b t l) i (later-space b h)))
 
 -- what tag::number_form computes once no byte reaches 128
 abbrev pub inForm : ℕ → ℕ → ℕ → ℕ → Bool
 inForm x every later high =
-    eqb (bitAnd (bitOr (characters x every later) (range 32 32 x later)) high) high
-    && eqb (bitAnd (bitAnd (characters x every later / 256) (range 32 32 x later)) high) 0
+    eqb (bitAnd (bitOr (characters x every later) (rangeMarks 32 32 x later)) high) high
+    && eqb (bitAnd (bitAnd (characters x every later / 256) (rangeMarks 32 32 x later)) high) 0
 
 in-form-is : (b : ℕ) (t : List ℕ) → low (b ∷ t) ≡ true
     → inForm (b + 256 * number t) (1 + 256 * ones t) (0 + 256 * ones t) (128 + 256 * highs t) ≡ ((tagChar 0 b && legal t) && ordered false t)
@@ -277,10 +266,10 @@ unfolding repeated
 in-form-is b t l =
     let h : b < 128 = low-first b t l in
     let c : characters b 1 0 < 256 = characters-lt b 1 0 h (omega arith) (omega arith) in
-    let k : range 32 32 b 0 < 256 = range-lt 32 32 b 0 h (omega arith) in
+    let k : rangeMarks 32 32 b 0 < 256 = range-lt 32 32 b 0 h (omega arith) in
     let q : (characters b 1 0 + 256 * charactersOf t) / 256 ≡ charactersOf t = omega (arith, c) in
-    let m = marked-cons (tagChar 0 b) false (characters b 1 0) (range 32 32 b 0) c k (first-character b h) (first-space b h) (charactersOf t) (spacesOf t) (highs t) in
-    let o = ordered-is t false (range 32 32 b 0) (low-rest b t l) k (first-space b h) in
+    let m = marked-cons (tagChar 0 b) false (characters b 1 0) (rangeMarks 32 32 b 0) c k (first-character b h) (first-space b h) (charactersOf t) (spacesOf t) (highs t) in
+    let o = ordered-is t false (rangeMarks 32 32 b 0) (low-rest b t l) k (first-space b h) in
     rw (characters-cons b 1 0 h (omega arith) (omega arith) (number t) (ones t) (ones t), range-cons 32 32 b 0 h (omega arith) (number t) (ones t), q, m, o, or-false, legal-is t (low-rest b t l))
 
 -- the tests said of bytes are the form

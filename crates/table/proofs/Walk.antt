@@ -1,5 +1,5 @@
 -- The computed walk is the walk of the rules: the theorem that specs/Walk.antt states. `walk-rule` is the walk's rule without
--- the number of slots that are left, and its four cases are what the loop of `chain::walk` follows.
+-- the number of slots that are left, and its four cases are what the loop of `chain::walk` follows. The laws of `unmet` are for ChainLaws too.
 use Prim.Native.Nat.{ℕ, zero, suc, _≤_, _<_}
 use mathlib.Core.Path.{_≡_, refl, ap, sym, _∙_, subst}
 use mathlib.Core.List.{List, [], _∷_, _++_}

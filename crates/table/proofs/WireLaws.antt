@@ -19,9 +19,9 @@ use Rattle.table.specs.Blocks.{fromFrame, wireOf}
 use Rattle.table.proofs.ChainLaws.{chain-in}
 
 -- two bytes of a slot are zero where their number is
-pub zero-two : (image : List ℕ) (slot b : ℕ) → HasSlot image slot → b + 1 < slotLength
+pub slot-pair-zero : (image : List ℕ) (slot b : ℕ) → HasSlot image slot → b + 1 < slotLength
     → eqb (numberAt 2 image (slotStart slot + b)) 0 ≡ (eqb (slotByte image slot b) 0 && eqb (slotByte image slot (b + 1)) 0)
-zero-two image slot b h l =
+slot-pair-zero image slot b h l =
     let e : slotStart slot + b + 1 ≡ slotStart slot + (b + 1) = omega arith in
     rw e at (zero-pair (slotStart slot + b) image (omega (arith, h)))
 
@@ -33,7 +33,7 @@ zero-wires image slot h =
     let at = slotStart slot + startWireOffset in
     let e : at + 2 ≡ slotStart slot + abortWireOffset = omega arith in
     sym (zero-at 4 at image) ∙ zero-split 2 2 at image
-    ∙ rw (e, zero-at 2 at image, zero-at 2 (slotStart slot + abortWireOffset) image, zero-two image slot startWireOffset h (omega arith), zero-two image slot abortWireOffset h (omega arith))
+    ∙ rw (e, zero-at 2 at image, zero-at 2 (slotStart slot + abortWireOffset) image, slot-pair-zero image slot startWireOffset h (omega arith), slot-pair-zero image slot abortWireOffset h (omega arith))
 
 -- no wire is the frame's bit
 pub none-frame : (chain : List ℕ) (slot code : ℕ) → noWire slot code ≡ true → wireOf chain slot code ≡ fromFrame

@@ -115,7 +115,7 @@ fn abort_wire(
     wire_at(image, positions, slots[i], ABORT_WIRE_OFFSET)
 }
 
-// The kind and the wires of block i; most blocks have none.
+// The kind and the wires of block i; without wires both inputs are the frame's bits.
 pub fn config_at(
     image: &[u8],
     slots: &[u8; MOST_SLOTS],

@@ -18,8 +18,8 @@ const EVERY: u64 = 0x0101010101010101;
 // One in every byte but the first.
 const LATER: u64 = 0x0101010101010100;
 
-// For x with all bytes below 128: bit 7 of each byte that has a one in `bytes` is set exactly where least <= byte <= most; bit 7 of the others is 0.
-fn within(x: u64, bytes: u64, least: u8, most: u8) -> u64
+// For x with all bytes below 128, and least <= most: bit 7 of each byte that has a one in `bytes` is set exactly where least <= byte <= most; bit 7 of the others is 0.
+fn range_marks(x: u64, bytes: u64, least: u8, most: u8) -> u64
     requires { ⌜ (x ≤ 0x7F7F7F7F7F7F7F7F) × (bytes ≤ 0x0101010101010101) × (least ≤ 128) × (most ≤ 127) ⌝ }
     ensures { λ r. ⌜ r ≡ bitXor (x + (128 - least) * bytes) (x + (127 - most) * bytes) ⌝ }
 {
@@ -34,10 +34,10 @@ fn number_form(x: u64) -> bool
     if (x & HIGH) != 0 {
         return false;
     }
-    let letters = within(x, EVERY, b'A', b'Z');
-    let digits = within(x, EVERY, b'0', b'9');
-    let underscores = within(x, LATER, b'_', b'_');
-    let spaces = within(x, LATER, b' ', b' ');
+    let letters = range_marks(x, EVERY, b'A', b'Z');
+    let digits = range_marks(x, EVERY, b'0', b'9');
+    let underscores = range_marks(x, LATER, b'_', b'_');
+    let spaces = range_marks(x, LATER, b' ', b' ');
     let characters = letters | digits | underscores;
     (((characters | spaces) & HIGH) == HIGH) & (((characters >> 8) & spaces & HIGH) == 0)
 }

@@ -1,4 +1,4 @@
--- Bytes that are all zero: tested as one number, in two parts, and as a list. For the checks of spare slots and of unnamed bytes, and for their readers.
+-- Bytes that are all zero: tested as one number, in two parts, and as a list. For the checks of spare slots, wires and unnamed bytes, and for their readers.
 use Prim.Native.Nat.{ℕ, _+_, _*_, _<_}
 use mathlib.Core.Path.{_≡_, refl, ap, sym, _∙_}
 use mathlib.Core.Bool.{Bool, true, _&&_}

@@ -5,7 +5,7 @@ use borrow.Author.Needs.{needs}
 use Rattle.kind.specs.Kind.{isKind}
 use Rattle.membership.proofs.Logic.{by-test}
 use Rattle.image.specs.Image.{zeroOffset, kindOf}
-use Rattle.table.proofs.WireLaws.{zero-two}
+use Rattle.table.proofs.WireLaws.{slot-pair-zero}
 use Rattle.table.proofs.record.kind_ok.Statement.{statement}
 use Rattle.table.proofs.record.kind_ok.Tie as tie
 
@@ -30,7 +30,7 @@ returns c =
     let g = k .before .before .before in
     let s = g .args .image .now in
     let kind : k .is-kind .result ≡ isKind (kindOf s (g .args .slot)) = k .is-kind .ensures ∙ ap isKind (k .before .slot-byte .ensures) in
-    rw (kind, c .u16-at .ensures, c .before .slot-start .ensures, zero-two s (g .args .slot) zeroOffset (g .pre) (omega arith))
+    rw (kind, c .u16-at .ensures, c .before .slot-start .ensures, slot-pair-zero s (g .args .slot) zeroOffset (g .pre) (omega arith))
     (by-test (isKind (kindOf s (g .args .slot))) (λ h. simp h) (λ h. simp h))
 
 pub kind-ok-spec : {M : Type 1} → statement M

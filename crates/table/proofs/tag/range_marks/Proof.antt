@@ -1,10 +1,10 @@
--- `tag::within` meets its contract: neither sum passes 64 bits.
+-- `tag::range_marks` meets its contract: neither sum passes 64 bits.
 use Prim.Native.Nat.{ℕ, _-_, _*_, _≤_}
 use native.Mathlib.Omega.{arith}
 use native.Mathlib.Nat.{mul-le-mul}
 use borrow.Author.Needs.{needs}
-use Rattle.table.proofs.tag.within.Statement.{statement}
-use Rattle.table.proofs.tag.within.Tie as tie
+use Rattle.table.proofs.tag.range_marks.Statement.{statement}
+use Rattle.table.proofs.tag.range_marks.Tie as tie
 
 -- what is added to every byte
 added : (a bytes : ℕ) → a ≤ 128 → bytes ≤ 0x0101010101010101 → a * bytes ≤ 0x8080808080808080
@@ -31,7 +31,7 @@ add-result-2 c = omega (arith, added (127 - c .args .most) (c .args .bytes) (ome
 returns : tie.Need-returns
 returns c = search needs
 
-pub within-spec : {M : Type 1} → statement M
-within-spec =
+pub range-marks-spec : {M : Type 1} → statement M
+range-marks-spec =
     tie.close
     (tie.spec sub-result mul-result add-result sub-result-2 mul-result-2 add-result-2 returns)
