@@ -1,7 +1,8 @@
-//! An idle scan by several builds of the engine, each a shared library made of its archive, measured in turns in one run.
+//! Several builds of the engine, each a shared library made of its archive, measured in turns in one run: every call of the benchmark beside plain C, and
+//! the parts of an idle scan.
 
+use crate::calls::print_calls;
 use crate::scan::table;
-use crate::table::SIZES;
 use crate::timing::medians;
 use lane::MAX_BLOCKS;
 use std::ffi::{c_char, c_int, c_void, CString};
@@ -17,6 +18,9 @@ extern "C" {
 
 /// Every symbol is resolved when the library is loaded.
 const RTLD_NOW: c_int = 2;
+
+/// `lane_check`, as this repository's header declares it.
+type Check = unsafe extern "C" fn(*const u8, usize) -> u64;
 
 /// `lane_scan`, as this repository's header declares it.
 type Scan = unsafe extern "C" fn(
@@ -36,24 +40,70 @@ type Scan = unsafe extern "C" fn(
 const RESET_REPLY: usize = 3;
 const PASSES: usize = 2;
 
-/// The scan of a build; none if there is no such library, or it exports none.
-fn load(path: &str) -> Option<Scan> {
-    let path = CString::new(path).ok()?;
-    // SAFETY: both names end in a zero byte, and the library is never unloaded. That it is a build of the engine, whose scan has
-    // this type, is the word of whoever names it.
-    unsafe {
-        let library = dlopen(path.as_ptr(), RTLD_NOW);
-        if library.is_null() {
-            return None;
+/// The functions of a build that are measured.
+#[derive(Clone, Copy)]
+pub struct Build {
+    check: Check,
+    scan: Scan,
+}
+
+impl Build {
+    /// The build in a library; none if there is no such library, or it does not export them.
+    fn load(path: &str) -> Option<Build> {
+        let path = CString::new(path).ok()?;
+        // SAFETY: all names end in a zero byte, and the library is never unloaded. That it is a build of the engine, whose functions have
+        // these types, is the word of whoever names it.
+        unsafe {
+            let library = dlopen(path.as_ptr(), RTLD_NOW);
+            if library.is_null() {
+                return None;
+            }
+            let check = dlsym(library, c"lane_check".as_ptr());
+            let scan = dlsym(library, c"lane_scan".as_ptr());
+            let both = !check.is_null() && !scan.is_null();
+            both.then(|| Build {
+                check: transmute::<*mut c_void, Check>(check),
+                scan: transmute::<*mut c_void, Scan>(scan),
+            })
         }
-        let scan = dlsym(library, c"lane_scan".as_ptr());
-        (!scan.is_null()).then(|| transmute::<*mut c_void, Scan>(scan))
+    }
+
+    /// The build's answer to the check of a table.
+    pub fn check(&self, image: &[u8]) -> u64 {
+        // SAFETY: the pointer and the length are those of a borrowed slice.
+        unsafe { (self.check)(image.as_ptr(), image.len()) }
+    }
+
+    /// The build's answer to a scan.
+    pub fn scan(
+        &self,
+        image: &[u8],
+        state: &mut [u8],
+        frame: &[u8],
+        report: &mut [u8],
+        journal: &mut [u8],
+    ) -> u64 {
+        // SAFETY: pointers and lengths are those of borrowed slices; those written are borrowed as mutable.
+        unsafe {
+            (self.scan)(
+                image.as_ptr(),
+                image.len(),
+                state.as_mut_ptr(),
+                state.len(),
+                frame.as_ptr(),
+                frame.len(),
+                report.as_mut_ptr(),
+                report.len(),
+                journal.as_mut_ptr(),
+                journal.len(),
+            )
+        }
     }
 }
 
 /// A build, and what it is given for scans of a table whose blocks are idle.
 struct Idle {
-    scan: Scan,
+    build: Build,
     image: Vec<u8>,
     state: Vec<u8>,
     frame: Vec<u8>,
@@ -63,11 +113,11 @@ struct Idle {
 
 impl Idle {
     /// Buffers as long as the build asks for: one that it refuses as too short grows by a byte a block.
-    fn new(scan: Scan, blocks: usize) -> Idle {
+    fn new(build: Build, blocks: usize) -> Idle {
         let (image, none) = (table(blocks), Vec::new);
         let (state, frame, report, journal) = (none(), none(), none(), none());
         let mut idle = Idle {
-            scan,
+            build,
             image,
             state,
             frame,
@@ -106,21 +156,9 @@ impl Idle {
 
     /// One scan: its answer.
     fn run(&mut self) -> u64 {
-        // SAFETY: pointers and lengths are those of slices of this struct; those written are borrowed as mutable.
-        unsafe {
-            (self.scan)(
-                self.image.as_ptr(),
-                self.image.len(),
-                self.state.as_mut_ptr(),
-                self.state.len(),
-                self.frame.as_ptr(),
-                self.frame.len(),
-                self.report.as_mut_ptr(),
-                self.report.len(),
-                self.journal.as_mut_ptr(),
-                self.journal.len(),
-            )
-        }
+        let (state, report) = (&mut self.state, &mut self.report);
+        self.build
+            .scan(&self.image, state, &self.frame, report, &mut self.journal)
     }
 }
 
@@ -145,37 +183,19 @@ fn times(mut scans: Vec<Idle>) -> Vec<f64> {
     medians(&mut works)
 }
 
-/// Prints the time of an idle scan by each build, and the last one's ratio to that of the build named first.
-fn print_scans(paths: &[String], scans: &[Scan]) {
-    let idle = |blocks| scans.iter().map(move |scan| Idle::new(*scan, blocks));
-    let times = SIZES.map(|blocks| times(idle(blocks).collect()));
-    println!("Idle scan: nanoseconds a call (median), kinds 1 to 12 in turn, no wires.\n");
-    print!("{:<10}", "blocks");
-    SIZES.iter().for_each(|blocks| print!("{blocks:>10}"));
-    println!("{:>9}", "ratio");
-    for (number, path) in paths.iter().enumerate() {
-        print!("{:<10}", "");
-        times
-            .iter()
-            .for_each(|times| print!("{:>10.1}", times[number]));
-        let last = &times[SIZES.len() - 1];
-        println!("{:>9.2}  {path}", last[number] / last[0]);
-    }
-}
-
 /// Prints the time of each part of an idle scan of 64 blocks by each build: that of a scan which ends after the part, less that of
 /// one which ends before it.
-fn print_parts(paths: &[String], scans: &[Scan]) {
-    let idle = scans.iter().flat_map(|scan| {
+fn print_parts(paths: &[String], builds: &[Build]) {
+    let idle = builds.iter().flat_map(|build| {
         PARTS.map(|(_, shorten)| {
-            let mut idle = Idle::new(*scan, MAX_BLOCKS);
+            let mut idle = Idle::new(*build, MAX_BLOCKS);
             shorten(&mut idle);
             idle
         })
     });
     let times = times(idle.collect());
     println!(
-        "\nIts parts at 64 blocks: checks of the table, the state and the frame, and serving.\n"
+        "\nThe parts of an idle scan of 64 blocks: checks of the table, the state and the frame, and serving.\n"
     );
     print!("{:<10}", "");
     PARTS.iter().for_each(|(name, _)| print!("{name:>10}"));
@@ -191,17 +211,17 @@ fn print_parts(paths: &[String], scans: &[Scan]) {
     }
 }
 
-/// Measures the builds and prints a line for each.
+/// Measures the builds and prints the times.
 pub fn run(paths: &[String]) -> ExitCode {
-    let mut scans = Vec::new();
+    let mut builds = Vec::new();
     for path in paths {
-        let Some(scan) = load(path) else {
-            eprintln!("{path}: no shared library with a lane_scan");
+        let Some(build) = Build::load(path) else {
+            eprintln!("{path}: no shared library with lane_check and lane_scan");
             return ExitCode::FAILURE;
         };
-        scans.push(scan);
+        builds.push(build);
     }
-    print_scans(paths, &scans);
-    print_parts(paths, &scans);
+    print_calls(paths, &builds);
+    print_parts(paths, &builds);
     ExitCode::SUCCESS
 }

@@ -2,8 +2,8 @@
 //!
 //!     cargo run --release -p bench
 //!
-//! With arguments: times of an idle scan and of its parts by each build of the engine that they name, a shared library made of its
-//! archive. At the root of each checkout, then in `host`:
+//! With arguments: times of the same calls by each build of the engine that they name, beside plain C, and of the parts of an idle scan; a
+//! build is a shared library made of its archive. At the root of each checkout, then in `host`:
 //!
 //!     rt staticlib lane
 //!     gcc -shared -o target/lane.so -Wl,--whole-archive target/staticlib/liblane.a -Wl,--no-whole-archive
@@ -13,6 +13,7 @@
 
 mod baseline;
 mod builds;
+mod calls;
 mod scan;
 mod table;
 mod timing;

@@ -6,24 +6,64 @@ use crate::timing::{head, line, nanoseconds};
 use lane::{ffi, image, Block, Engine, Entry, Frame, Kind, Piece, Position, Reply, Step};
 use std::hint::black_box;
 
+/// All buffers of scans that are measured.
+#[derive(Clone, PartialEq, Eq, Debug)]
+pub struct Buffers {
+    pub state: Vec<u8>,
+    pub report: Vec<u8>,
+    pub journal: Vec<u8>,
+}
+
+impl Buffers {
+    /// Those of a table before its first scan.
+    fn fresh(image: &[u8], blocks: usize) -> Buffers {
+        let engine = Engine::new(image).expect("an accepted table");
+        Buffers {
+            state: engine.fresh().as_bytes().to_vec(),
+            report: vec![0; lane::REPORT_BYTES * blocks],
+            journal: vec![0; 2 * lane::EVENT_BYTES * blocks],
+        }
+    }
+}
+
+/// A function that runs a scan over an image and a frame, into the buffers: the number of events.
+pub type Scan = dyn Fn(&[u8], &[u8], &mut Buffers) -> u64;
+
 /// What the blocks do, as the frames of scans that are run in turn.
-struct Load {
-    name: &'static str,
-    frames: Vec<Frame>,
+pub struct Load {
+    pub name: &'static str,
+    pub frames: Vec<Frame>,
     /// The step of every block after each of the frames.
     steps: Vec<Step>,
 }
 
-/// All buffers of scans that are measured.
-#[derive(Clone, PartialEq, Eq, Debug)]
-struct Buffers {
-    state: Vec<u8>,
-    report: Vec<u8>,
-    journal: Vec<u8>,
-}
+impl Load {
+    /// Runs the load once, from fresh: the buffers after it.
+    pub fn settle(&self, scan: &Scan, image: &[u8], blocks: usize) -> Buffers {
+        let mut buffers = Buffers::fresh(image, blocks);
+        for (frame, step) in self.frames.iter().zip(&self.steps) {
+            assert_eq!(scan(image, frame.as_bytes(), &mut buffers) >> 32, 0);
+            let steps = buffers.state.chunks_exact(lane::RECORD_BYTES).map(|r| r[0]);
+            assert!(steps.into_iter().all(|found| found == step.number()));
+        }
+        buffers
+    }
 
-/// A function that runs a scan over an image and a frame, into the buffers: the number of events.
-type Scan = fn(&[u8], &[u8], &mut Buffers) -> u64;
+    /// What is measured: the load run once more.
+    pub fn work<'a>(
+        &'a self,
+        scan: &'a Scan,
+        image: &'a [u8],
+        mut buffers: Buffers,
+    ) -> impl FnMut() + 'a {
+        move || {
+            for frame in &self.frames {
+                let frame = black_box(frame.as_bytes());
+                black_box(scan(black_box(image), frame, &mut buffers));
+            }
+        }
+    }
+}
 
 fn by_engine(image: &[u8], frame: &[u8], b: &mut Buffers) -> u64 {
     let answer = ffi::scan(image, &mut b.state, frame, &mut b.report, &mut b.journal);
@@ -35,11 +75,11 @@ fn by_reference(image: &[u8], frame: &[u8], b: &mut Buffers) -> u64 {
     answer.map_or(u64::MAX, |events| events as u64)
 }
 
-fn by_baseline(image: &[u8], frame: &[u8], b: &mut Buffers) -> u64 {
+pub fn by_baseline(image: &[u8], frame: &[u8], b: &mut Buffers) -> u64 {
     baseline::scan(image, &mut b.state, frame, &mut b.report, &mut b.journal)
 }
 
-const ALL: [Scan; 3] = [by_engine, by_reference, by_baseline];
+const ALL: [&Scan; 3] = [&by_engine, &by_reference, &by_baseline];
 
 /// A table of blocks without wires, of kinds 1 to 12 in turn: those that can be done.
 pub fn table(blocks: usize) -> Vec<u8> {
@@ -56,7 +96,7 @@ fn frame(blocks: usize, entry: &Entry) -> Frame {
 }
 
 /// The loads of so many blocks.
-fn loads(blocks: usize) -> [Load; 3] {
+pub fn loads(blocks: usize) -> [Load; 3] {
     let idle = Entry {
         reset_complete: true,
         ..Entry::default()
@@ -90,32 +130,11 @@ fn loads(blocks: usize) -> [Load; 3] {
     ]
 }
 
-/// Runs the load once by each implementation, from fresh: the buffers after it, alike for all.
-fn settle(image: &[u8], load: &Load, fresh: &Buffers) -> Buffers {
-    let after = ALL.map(|scan| {
-        let mut buffers = fresh.clone();
-        for (frame, step) in load.frames.iter().zip(&load.steps) {
-            assert_ne!(scan(image, frame.as_bytes(), &mut buffers), u64::MAX);
-            let steps = buffers.state.chunks_exact(lane::RECORD_BYTES).map(|r| r[0]);
-            assert!(steps.into_iter().all(|found| found == step.number()));
-        }
-        buffers
-    });
+/// The times of a scan of a load by each implementation, all of which have to leave the same buffers.
+fn measure(image: &[u8], load: &Load, blocks: usize) -> [f64; 3] {
+    let after = ALL.map(|scan| load.settle(scan, image, blocks));
     assert!(after.iter().all(|buffers| *buffers == after[0]));
-    after[0].clone()
-}
-
-/// The times of a scan of a load by each implementation.
-fn measure(image: &[u8], load: &Load, buffers: &Buffers) -> [f64; 3] {
-    let mut works = ALL.map(|scan| {
-        let mut buffers = buffers.clone();
-        move || {
-            for frame in &load.frames {
-                let frame = black_box(frame.as_bytes());
-                black_box(scan(black_box(image), frame, &mut buffers));
-            }
-        }
-    });
+    let mut works = ALL.map(|scan| load.work(scan, image, after[0].clone()));
     let works = works.each_mut().map(|work| work as &mut dyn FnMut());
     nanoseconds(works).map(|time| time / load.frames.len() as f64)
 }
@@ -133,15 +152,8 @@ pub fn run() {
     let mut first = [None; 3];
     for blocks in SIZES {
         let table = table(blocks);
-        let engine = Engine::new(&table).expect("an accepted table");
-        let fresh = Buffers {
-            state: engine.fresh().as_bytes().to_vec(),
-            report: vec![0; lane::REPORT_BYTES * blocks],
-            journal: vec![0; 2 * lane::EVENT_BYTES * blocks],
-        };
         for (load, first) in loads(blocks).iter().zip(&mut first) {
-            let buffers = settle(&table, load, &fresh);
-            let times = measure(&table, load, &buffers);
+            let times = measure(&table, load, blocks);
             line(load.name, blocks, &OTHERS, &times, first);
         }
     }

@@ -18,7 +18,7 @@ pub fn tag(position: usize) -> Tag {
 }
 
 /// A table of blocks with a wire on each input, of all kinds in turn.
-fn wired(blocks: usize) -> Vec<u8> {
+pub fn wired(blocks: usize) -> Vec<u8> {
     let block = |index: usize| {
         let kind = Kind::ALL[(index + 4) % Kind::ALL.len()];
         let from = |step: usize, flag| Wire::new(((index + step) % blocks) as u8 + 1, flag);
