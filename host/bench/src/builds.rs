@@ -20,10 +20,10 @@ extern "C" {
 const RTLD_NOW: c_int = 2;
 
 /// `lane_check`, as this repository's header declares it.
-type Check = unsafe extern "C" fn(*const u8, usize) -> u64;
+pub type Check = unsafe extern "C" fn(*const u8, usize) -> u64;
 
 /// `lane_scan`, as this repository's header declares it.
-type Scan = unsafe extern "C" fn(
+pub type Scan = unsafe extern "C" fn(
     *const u8,
     usize,
     *mut u8,
@@ -40,11 +40,11 @@ type Scan = unsafe extern "C" fn(
 const RESET_REPLY: usize = 3;
 const PASSES: usize = 2;
 
-/// The functions of a build that are measured.
+/// The functions of a build that are measured, or those of plain C.
 #[derive(Clone, Copy)]
 pub struct Build {
-    check: Check,
-    scan: Scan,
+    pub check: Check,
+    pub scan: Scan,
 }
 
 impl Build {
@@ -68,13 +68,13 @@ impl Build {
         }
     }
 
-    /// The build's answer to the check of a table.
+    /// The answer to the check of a table.
     pub fn check(&self, image: &[u8]) -> u64 {
         // SAFETY: the pointer and the length are those of a borrowed slice.
         unsafe { (self.check)(image.as_ptr(), image.len()) }
     }
 
-    /// The build's answer to a scan.
+    /// The answer to a scan.
     pub fn scan(
         &self,
         image: &[u8],

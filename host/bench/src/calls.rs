@@ -1,6 +1,6 @@
 //! Every call of the benchmark by several builds of the engine and by plain C, in turns.
 
-use crate::baseline;
+use crate::baseline::PLAIN_C;
 use crate::builds::Build;
 use crate::scan::{self, Buffers, Load};
 use crate::table::{wired, SIZES};
@@ -37,14 +37,11 @@ fn times(mut works: Vec<Box<dyn FnMut() + '_>>) -> Vec<f64> {
 fn check(builds: &[Build], blocks: usize) -> Line {
     let image = wired(blocks);
     let image = &image[..];
-    let mut works: Vec<Box<dyn FnMut() + '_>> = Vec::new();
-    for build in builds {
-        works.push(Box::new(|| _ = black_box(build.check(black_box(image)))));
-    }
-    works.push(Box::new(|| {
-        _ = black_box(baseline::check(black_box(image)))
-    }));
-    let times = times(works);
+    let works = builds.iter().map(|build| {
+        let work = || _ = black_box(build.check(black_box(image)));
+        Box::new(work) as Box<dyn FnMut() + '_>
+    });
+    let times = times(works.collect());
     let name = "check";
     Line {
         name,
@@ -53,19 +50,16 @@ fn check(builds: &[Build], blocks: usize) -> Line {
     }
 }
 
-/// The scans of a load, whose buffers every build and plain C have to leave alike.
+/// The scans of a load, whose buffers all builds have to leave alike.
 fn load(builds: &[Build], blocks: usize, load: &Load) -> Line {
     let image = scan::table(blocks);
-    let by_build = |build: Build| {
-        move |image: &[u8], frame: &[u8], b: &mut Buffers| {
+    let scans = builds.iter().map(|build| {
+        let scan = |image: &[u8], frame: &[u8], b: &mut Buffers| {
             build.scan(image, &mut b.state, frame, &mut b.report, &mut b.journal)
-        }
-    };
-    let mut scans: Vec<Box<scan::Scan>> = Vec::new();
-    for build in builds {
-        scans.push(Box::new(by_build(*build)));
-    }
-    scans.push(Box::new(scan::by_baseline));
+        };
+        Box::new(scan) as Box<scan::Scan<'_>>
+    });
+    let scans: Vec<_> = scans.collect();
     let after = scans
         .iter()
         .map(|scan| load.settle(&**scan, &image, blocks))
@@ -84,17 +78,18 @@ fn load(builds: &[Build], blocks: usize, load: &Load) -> Line {
     }
 }
 
-/// Measures and prints.
+/// Measures the builds and plain C, and prints.
 pub fn print_calls(paths: &[String], builds: &[Build]) {
     println!("Nanoseconds a call (median) by each build and by plain C, and the builds' ratios to plain C.");
     for (number, path) in paths.iter().enumerate() {
         println!("build {}: {path}", number + 1);
     }
     println!();
+    let all = [builds, &[PLAIN_C]].concat();
     for blocks in SIZES {
-        check(builds, blocks).print();
+        check(&all, blocks).print();
         for one in &scan::loads(blocks) {
-            load(builds, blocks, one).print();
+            load(&all, blocks, one).print();
         }
     }
 }

@@ -1,6 +1,6 @@
 //! The scan at 1, 8 and 64 blocks: idle, working, and turning jobs over.
 
-use crate::baseline;
+use crate::baseline::PLAIN_C;
 use crate::table::{tag, OTHERS, SIZES};
 use crate::timing::{head, line, nanoseconds};
 use lane::{ffi, image, Block, Engine, Entry, Frame, Kind, Piece, Position, Reply, Step};
@@ -27,7 +27,7 @@ impl Buffers {
 }
 
 /// A function that runs a scan over an image and a frame, into the buffers: the number of events.
-pub type Scan = dyn Fn(&[u8], &[u8], &mut Buffers) -> u64;
+pub type Scan<'a> = dyn Fn(&[u8], &[u8], &mut Buffers) -> u64 + 'a;
 
 /// What the blocks do, as the frames of scans that are run in turn.
 pub struct Load {
@@ -75,11 +75,11 @@ fn by_reference(image: &[u8], frame: &[u8], b: &mut Buffers) -> u64 {
     answer.map_or(u64::MAX, |events| events as u64)
 }
 
-pub fn by_baseline(image: &[u8], frame: &[u8], b: &mut Buffers) -> u64 {
-    baseline::scan(image, &mut b.state, frame, &mut b.report, &mut b.journal)
+fn by_baseline(image: &[u8], frame: &[u8], b: &mut Buffers) -> u64 {
+    PLAIN_C.scan(image, &mut b.state, frame, &mut b.report, &mut b.journal)
 }
 
-const ALL: [&Scan; 3] = [&by_engine, &by_reference, &by_baseline];
+const ALL: [&Scan<'static>; 3] = [&by_engine, &by_reference, &by_baseline];
 
 /// A table of blocks without wires, of kinds 1 to 12 in turn: those that can be done.
 pub fn table(blocks: usize) -> Vec<u8> {

@@ -1,6 +1,6 @@
 //! The table check and the lookup at 1, 8 and 64 blocks, all wired.
 
-use crate::baseline;
+use crate::baseline::{self, PLAIN_C};
 use crate::timing::{head, line, nanoseconds};
 use lane::{ffi, image, Block, Engine, Flag, Kind, Tag, Wire};
 use reference::table;
@@ -45,7 +45,7 @@ pub fn run() {
         let check = nanoseconds([
             &mut || _ = black_box(ffi::check(image())),
             &mut || _ = black_box(table::check(image())),
-            &mut || _ = black_box(baseline::check(image())),
+            &mut || _ = black_box(PLAIN_C.check(image())),
         ]);
         let [found, absent] = [last, absent].map(|tag| {
             nanoseconds([
