@@ -7,7 +7,7 @@ use mathlib.Core.List.{List, [], _∷_}
 use mathlib.Core.Bool.{Bool, true, false, cond, not, _&&_, _||_, or-false, and-assoc}
 use native.Mathlib.Omega.{arith}
 use native.Mathlib.Nat.{mul-add, mul-left-comm, mul-le-mul-left}
-use borrow.Author.Tests.{eqb-true, eqb-false, eq-eqb, ne-eqb, ltb-true, ltb-false, lt-ltb, le-leb, lt-leb}
+use borrow.Author.Tests.{eqb-true, eq-eqb, ne-eqb, ltb-true, ltb-false, lt-ltb, le-leb, lt-leb}
 use lib.Dec.{eqb, ltb}
 use lib.ListN.{length}
 use lib.Bits.{bitAnd, bitOr, bitXor, and-block, or-block, xor-block, and-lt, or-lt, xor-lt, and-shr, or-shr, and-high}
