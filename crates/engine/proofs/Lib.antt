@@ -6,6 +6,7 @@ pub mod ServeLaws
 pub mod IdleLaws
 pub mod WorkingLaws
 pub mod ServingLaws
+pub mod ByBlocks
 pub mod AnswerLaws
 pub mod RefusalLaws
 pub mod ScanAccepted

@@ -16,4 +16,5 @@ pub mod HeldLaws
 pub mod AnswerLaws
 pub mod SearchLaws
 pub mod LookupLaws
+pub mod ByBlocks
 pub mod Refusals
