@@ -1,0 +1,4 @@
+pub mod Encode
+pub mod Tidy
+pub mod TidyExample
+pub mod Refusals
