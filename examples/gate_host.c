@@ -1,4 +1,5 @@
-/* A host box of a small gate: five lanes, eight scans and one that is turned back. It prints its story first.
+/* A host box of a small gate: five lanes, eight scans and one that is turned back. It prints its story first. Every
+ * scan runs over the table as it was edited and over the same table tidied: both give the same.
  *
  * Build at the root of the repository, after `rt staticlib lane`:
  *     gcc -std=c99 -Wall -Wextra -Iinclude examples/gate_host.c target/staticlib/liblane.a -o target/gate_host
@@ -112,6 +113,7 @@ static const struct entry story[SCANS][LANES] = {
 /* All buffers of the box. */
 struct box {
     uint8_t image[LANE_HEADER_BYTES + LANE_SLOT_BYTES * SLOTS];
+    uint8_t tidy[LANE_HEADER_BYTES + LANE_SLOT_BYTES * LANES]; /* the same table, tidied */
     uint8_t state[LANE_RECORD_BYTES * LANES];
     uint8_t before[LANE_RECORD_BYTES * LANES]; /* the state before the scan, for the print */
     uint8_t frame[LANE_ENTRY_BYTES * LANES];
@@ -277,12 +279,21 @@ static void print_journal(const struct logged *log, size_t events)
     }
 }
 
-/* Runs a scan over the box's buffers. */
+/* Runs a scan over the box's buffers and a table. */
+static uint64_t run_scan_over(struct box *box, const uint8_t *image, size_t image_len)
+{
+    return lane_scan(image, image_len, box->state, sizeof box->state, box->frame, sizeof box->frame,
+                     box->report, sizeof box->report, box->journal, sizeof box->journal);
+}
+
+/* Runs a scan over the box's table; over the tidy one it gives the same. */
 static uint64_t run_scan(struct box *box)
 {
-    return lane_scan(box->image, sizeof box->image, box->state, sizeof box->state, box->frame,
-                     sizeof box->frame, box->report, sizeof box->report, box->journal,
-                     sizeof box->journal);
+    struct box other = *box;
+    uint64_t answer = run_scan_over(box, box->image, sizeof box->image);
+    expect(run_scan_over(&other, other.tidy, sizeof other.tidy) == answer, "the answer over the tidy table");
+    expect(memcmp(&other, box, sizeof other) == 0, "the buffers over the tidy table");
+    return answer;
 }
 
 /* Finds the block with a name. */
@@ -313,6 +324,38 @@ static void find_lanes(const struct box *box)
     find_none(box, "LANE2", LANE_REFUSED_LOOKUP_ABSENT);
     find_none(box, "LANE_1", LANE_REFUSED_LOOKUP_ABSENT);
     find_none(box, "_LANE1", LANE_REFUSED_LOOKUP_FORM);
+}
+
+/* A lane's slot in a table, and the slot that its start wire names. */
+static void print_slot(const uint8_t *image, uint32_t position)
+{
+    uint32_t slot = lane_slot_at(image, position);
+    uint8_t wire = lane_get_slot(image, slot).start_wire;
+    printf("  %4u ", (unsigned)slot);
+    if (wire != 0)
+        printf("%4u", (unsigned)wire);
+    else
+        printf("   -");
+}
+
+/* Tidies the table: the lanes stand in slots 1 to 5 in chain order, and their wires name those. */
+static void tidy_table(struct box *box)
+{
+    uint64_t answer = lane_tidy(box->image, sizeof box->image, box->tidy, sizeof box->tidy - 1);
+    expect(lane_refusal_number(answer) == LANE_REFUSED_TIDY_LENGTH, "a table one byte short");
+    answer = lane_tidy(box->image, sizeof box->image, box->tidy, sizeof box->tidy);
+    expect(lane_tidy_bytes(accepted("lane_tidy", answer)) == sizeof box->tidy, "the length of a tidy table");
+    printf("\nThe table has %d slots for %d lanes, and its chain jumps about; tidied it has %d slots.\n"
+           "Every scan below runs over both, and gives the same.\n"
+           "          as given     tidied\n"
+           "lane     slot wire  slot wire\n",
+           SLOTS, LANES, LANES);
+    for (uint32_t position = 1; position <= LANES; position++) {
+        printf("%-5s  ", blocks[position - 1].name);
+        print_slot(box->image, position);
+        print_slot(box->tidy, position);
+        printf("\n");
+    }
 }
 
 /* A frame with one entry out of form is turned back, and nothing is written. */
@@ -363,6 +406,7 @@ int main(void)
     expect(accepted("lane_check", lane_check(box.image, sizeof box.image)) == LANES, "five blocks");
     expect(lane_refusal_number(lane_check(NULL, 0)) == LANE_REFUSED_HEADER_LENGTH, "an empty table");
     find_lanes(&box);
+    tidy_table(&box);
     accepted("lane_fresh", lane_fresh(box.image, sizeof box.image, box.state, sizeof box.state));
 
     print_legend();

@@ -2,7 +2,7 @@
  *
  * Slices. Every argument is a slice: a pointer to its first byte, and its length in bytes. A slice may
  * have any length and any content; an empty one may be (NULL, 0). Numbers in slices are little-endian.
- * A slice lent for writing (state, report, journal) shares no byte with another slice of the call: all
+ * A slice lent for writing (state, report, journal, out) shares no byte with another slice of the call: all
  * that the engine promises rests on that. No alignment is asked. The engine has no heap, no static data
  * and no locks, so calls over different buffers may run at once. Of the C library the archive needs memset
  * only; the functions of this header need memcpy and strlen too.
@@ -225,7 +225,8 @@ enum {
     LANE_REFUSED_REPORT_LENGTH = 40,
     LANE_REFUSED_JOURNAL_LENGTH = 41,
     LANE_REFUSED_LOOKUP_FORM = 50,
-    LANE_REFUSED_LOOKUP_ABSENT = 51
+    LANE_REFUSED_LOOKUP_ABSENT = 51,
+    LANE_REFUSED_TIDY_LENGTH = 60
 };
 
 /* What the place of a refusal is. A later header may have more of them. */
@@ -262,6 +263,20 @@ uint64_t lane_scan(const uint8_t *image, size_t image_len, uint8_t *state, size_
  * lane_get_slot(image, lane_slot_at(image, position)) is what it shows, with the position that an accepted
  * lane_find answered. */
 uint64_t lane_find(const uint8_t *image, size_t image_len, const uint8_t *tag, size_t tag_len);
+
+/* Writes a table anew, tidy: its blocks in chain order in slots 1, 2, 3 and on, head 1, the wires renumbered and
+ * their codes kept, no spare slots; of a table of no blocks, one zero slot and head 0. Answers the number of
+ * blocks. The lent table has lane_tidy_bytes of that number, which lane_check answers too. Over the tidy table
+ * lane_fresh, lane_scan and lane_find do the same as over the one that was given, with the same states and frames:
+ * a host may put it in that one's place between two scans. Slots differ, and so do lane_slot_at and lane_get_slot.
+ * Refusals 1 to 11, 60. */
+uint64_t lane_tidy(const uint8_t *image, size_t image_len, uint8_t *out, size_t out_len);
+
+/* The length of the tidy table of so many blocks. */
+static inline size_t lane_tidy_bytes(uint32_t blocks)
+{
+    return LANE_HEADER_BYTES + (size_t)LANE_SLOT_BYTES * (blocks == 0 ? 1 : blocks);
+}
 
 /* Whether the call was accepted: 1 or 0. */
 static inline int lane_is_accepted(uint64_t answer) { return answer >> 32 == 0; }
@@ -340,6 +355,8 @@ static inline const char *lane_refusal_text(uint64_t answer)
         return "the tag to find is not one or more of A-Z, 0-9 and, except first, underscore, then spaces to "
                "eight bytes";
     case LANE_REFUSED_LOOKUP_ABSENT: return "no block of the table has this tag";
+    case LANE_REFUSED_TIDY_LENGTH:
+        return "the lent table's length is not 4 bytes and 16 a block, or 20 of no blocks";
     default: return "no check has this number";
     }
 }

@@ -1,14 +1,19 @@
-// Prints what check, find and show answer: two lanes with look-alike tags, an image for each refusal of the table and of lookup, and three
-// lanes of which two are told apart by an underscore alone.
+// Prints what check, find, show and tidy answer: two lanes with look-alike tags, an image for each refusal of the table and of lookup, three
+// lanes of which two are told apart by an underscore alone, and these three tidied.
 ghost use mathlib.Core.Path.{_≡_};
 ghost use Prim.Native.Nat.{_<_};
 ghost use lib.ListN.{length};
 ghost use Rattle.image.specs.Image.{imageLength};
 use image::HEADER_LENGTH;
+use image::SLOT_COUNT_OFFSET;
 use image::SLOT_LENGTH;
+use image::VERSION_OFFSET;
 use table::check::Checked;
 use table::lookup::Found;
 use table::place::Place;
+
+// Bytes of an image of one slot.
+const ONE_SLOT: usize = HEADER_LENGTH + SLOT_LENGTH;
 
 // Bytes of an image of two slots.
 const TWO_SLOTS: usize = HEADER_LENGTH + 2 * SLOT_LENGTH;
@@ -51,12 +56,11 @@ fn print_refusal(number: u8, place: Place) {
     print_place(place);
 }
 
-fn print_check(name: &[u8], image: &[u8]) {
-    print(b"check ");
+fn print_checked(call: &[u8], name: &[u8], answer: Checked) {
+    print(call);
     print(name);
     print(b": ");
-    let checked = table::check::check(image);
-    match checked {
+    match answer {
         Checked::Blocks(blocks) => {
             io::print_decimal(1, blocks as u64);
             print(b" blocks");
@@ -64,6 +68,10 @@ fn print_check(name: &[u8], image: &[u8]) {
         Checked::Refused(number, place) => print_refusal(number, place),
     }
     print(b"\n");
+}
+
+fn print_check(name: &[u8], image: &[u8]) {
+    print_checked(b"check ", name, table::check::check(image));
 }
 
 fn print_find(image: &[u8], tag: &[u8]) {
@@ -148,6 +156,34 @@ fn look_up_underscores() {
     look_up(&image, b"_IN1    ");
 }
 
+fn print_tidy(name: &[u8], image: &[u8], out: &mut [u8]) {
+    print_checked(b"tidy ", name, tidy::tidy::tidy(image, out));
+}
+
+// The three lanes tidied stand in slots 1, 2 and 3: found at the same positions, shown with other next slots.
+fn tidy_three() {
+    let image = three_lanes();
+    let mut short = [0u8; TWO_SLOTS];
+    print_tidy(b"three lanes into 36 bytes", &image, &mut short);
+    let mut tidied = [0u8; THREE_SLOTS];
+    print_tidy(b"three lanes", &image, &mut tidied);
+    look_up(&tidied, b"IN_1    ");
+    look_up(&tidied, b"IN1     ");
+    look_up(&tidied, b"IN_2    ");
+}
+
+// A table without blocks becomes one zero slot.
+fn tidy_none() {
+    let mut image = [0u8; THREE_SLOTS];
+    image[VERSION_OFFSET] = 1;
+    image[SLOT_COUNT_OFFSET] = 3;
+    let mut tidied = [255u8; ONE_SLOT];
+    print_tidy(b"three spare slots", &image, &mut tidied);
+    print(b"image:");
+    print_bytes(&tidied);
+    print(b"\n");
+}
+
 fn main() {
     let image = two_lanes();
     print_check(b"two lanes", &image);
@@ -160,4 +196,6 @@ fn main() {
     look_up(&image, b"LANE0");
     look_up(&image, b"LANE1   ");
     look_up_underscores();
+    tidy_three();
+    tidy_none();
 }

@@ -11,6 +11,7 @@ use Rattle.table.specs.Lookup.{findOf, foundAnswer}
 use Rattle.engine.specs.Told.{Told}
 use Rattle.engine.specs.Fresh.{freshOf}
 use Rattle.engine.specs.Scan.{scanOf, scanAnswer}
+use Rattle.tidy.specs.Tidy.{tidyInto}
 
 -- what a refusal's number weighs
 abbrev pub numberWeight : ℕ
@@ -33,7 +34,7 @@ Packable (refusal number place) = (1 ≤ number) × (number < 256) × (place < n
 abbrev pub UnpackedIsPacked : Type 0
 UnpackedIsPacked = (a : Answer) → Packable a → unpacked (packed a) ≡ a
 
--- theorems check-packable, find-packable, fresh-packable and scan-packable, there too: all that the entry points answer is such
+-- theorems check-packable, find-packable, fresh-packable, scan-packable and tidy-packable, there too: all that the entry points answer is such
 abbrev pub CheckIsPackable : Type 0
 CheckIsPackable = (image : List ℕ) → Bytes image → Packable (checkedAnswer (checkOf image))
 
@@ -45,3 +46,6 @@ FreshIsPackable = (image state : List ℕ) → Bytes image → Packable (checked
 
 abbrev pub ScanIsPackable : Type 0
 ScanIsPackable = (image state : List ℕ) (told : Told) (report journal : List ℕ) → Bytes image → Packable (scanAnswer (scanOf image state told report journal .answer))
+
+abbrev pub TidyIsPackable : Type 0
+TidyIsPackable = (image out : List ℕ) → Bytes image → Packable (checkedAnswer (tidyInto image out .answer))

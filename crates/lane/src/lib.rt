@@ -5,6 +5,7 @@ ghost use Rattle.table.specs.Check.{checkOf, checkedAnswer};
 ghost use Rattle.table.specs.Lookup.{findOf, foundAnswer};
 ghost use Rattle.engine.specs.Fresh.{freshOf};
 ghost use Rattle.engine.specs.Scan.{scanOf, scanAnswer};
+ghost use Rattle.tidy.specs.Tidy.{tidyInto};
 ghost use Rattle.lane.specs.Packed.{packed, unpacked};
 use engine::scan::Scanned;
 use table::check::Checked;
@@ -97,4 +98,14 @@ pub extern "C" fn lane_find(image: &[u8], tag: &[u8]) -> u64
     ensures unpacks { λ r. ⌜ unpacked r ≡ foundAnswer (findOf (now (image .entry)) (now (tag .entry))) ⌝ }
 {
     pack_found(table::lookup::find(image, tag))
+}
+
+// Write a table anew, tidy, into the lent buffer: the number of its blocks, or the first check that fails, which leaves the buffer untouched.
+#[no_mangle]
+pub extern "C" fn lane_tidy(image: &[u8], out: &mut [u8]) -> u64
+    ensures answer { λ r. ⌜ r ≡ packed (checkedAnswer (tidyInto (now (image .entry)) (now (out .entry)) .answer)) ⌝ }
+    ensures unpacks { λ r. ⌜ unpacked r ≡ checkedAnswer (tidyInto (now (image .entry)) (now (out .entry)) .answer) ⌝ }
+    ensures out { λ _. ⌜ now (out .exit) ≡ tidyInto (now (image .entry)) (now (out .entry)) .out ⌝ }
+{
+    pack_checked(tidy::tidy::tidy(image, out))
 }

@@ -30,6 +30,10 @@ fn scan(
     engine::scan::scan(image, state, frame, report, journal)
 }
 
+fn tidy(image: &[u8], out: &mut [u8]) -> Checked {
+    tidy::tidy::tidy(image, out)
+}
+
 fn lane_check(image: &[u8]) -> u64 {
     lane::lane_check(image)
 }
@@ -50,6 +54,10 @@ fn lane_scan(
     journal: &mut [u8],
 ) -> u64 {
     lane::lane_scan(image, state, frame, report, journal)
+}
+
+fn lane_tidy(image: &[u8], out: &mut [u8]) -> u64 {
+    lane::lane_tidy(image, out)
 }
 
 fn print(text: &[u8]) {
@@ -90,6 +98,7 @@ fn main() {
     let mut state = [0u8; 0];
     let mut report = [0u8; 0];
     let mut journal = [0u8; 0];
+    let mut out = [0u8; 0];
     print_checked(b"check", check(&none));
     print_found(find(&none, &none));
     print(b"show: ");
@@ -97,6 +106,7 @@ fn main() {
     print(b" bytes\n");
     print_checked(b"fresh", fresh(&none, &mut state));
     print_scanned(scan(&none, &mut state, &none, &mut report, &mut journal));
+    print_checked(b"tidy", tidy(&none, &mut out));
     print_packed(b"lane_check", lane_check(&none));
     print_packed(b"lane_find", lane_find(&none, &none));
     print_packed(b"lane_fresh", lane_fresh(&none, &mut state));
@@ -104,4 +114,5 @@ fn main() {
         b"lane_scan",
         lane_scan(&none, &mut state, &none, &mut report, &mut journal),
     );
+    print_packed(b"lane_tidy", lane_tidy(&none, &mut out));
 }

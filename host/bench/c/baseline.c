@@ -7,6 +7,7 @@
 
 uint64_t baseline_check(const uint8_t *image, size_t image_len);
 uint64_t baseline_find(const uint8_t *image, size_t image_len, const uint8_t *tag, size_t tag_len);
+uint64_t baseline_tidy(const uint8_t *image, size_t image_len, uint8_t *out, size_t out_len);
 uint64_t baseline_fresh(const uint8_t *image, size_t image_len, uint8_t *state, size_t state_len);
 uint64_t baseline_scan(const uint8_t *image, size_t image_len, uint8_t *state, size_t state_len,
                        const uint8_t *frame, size_t frame_len, uint8_t *report, size_t report_len,
@@ -164,6 +165,29 @@ uint64_t baseline_find(const uint8_t *image, size_t image_len, const uint8_t *ta
         if (memcmp(slot_at(&t, t.order[i]) + 8, tag, 8) == 0)
             return i + 1;
     return refuse(51, 0);
+}
+
+uint64_t baseline_tidy(const uint8_t *image, size_t image_len, uint8_t *out, size_t out_len)
+{
+    struct table t;
+    uint64_t refused = read_table(&t, image, image_len);
+    if (refused)
+        return refused;
+    unsigned slots = t.count != 0 ? t.count : 1;
+    if (out_len != 4 + 16 * (size_t)slots)
+        return refuse(60, 0);
+    memset(out, 0, 4 + 16);
+    out[0] = 1;
+    out[1] = (uint8_t)slots;
+    out[2] = t.count != 0;
+    for (unsigned i = 0; i < t.count; i++) {
+        uint8_t *to = out + 4 + 16 * i;
+        memcpy(to, slot_at(&t, t.order[i]), 16);
+        to[1] = (uint8_t)(i + 1 < t.count ? i + 2 : 0);
+        to[2] = t.position[to[2]];
+        to[4] = t.position[to[4]];
+    }
+    return t.count;
 }
 
 uint64_t baseline_fresh(const uint8_t *image, size_t image_len, uint8_t *state, size_t state_len)

@@ -5,6 +5,7 @@ use crate::builds::Build;
 extern "C" {
     fn baseline_check(image: *const u8, image_len: usize) -> u64;
     fn baseline_find(image: *const u8, image_len: usize, tag: *const u8, tag_len: usize) -> u64;
+    fn baseline_tidy(image: *const u8, image_len: usize, out: *mut u8, out_len: usize) -> u64;
     fn baseline_scan(
         image: *const u8,
         image_len: usize,
@@ -28,4 +29,9 @@ pub const PLAIN_C: Build = Build {
 pub fn find(image: &[u8], tag: &[u8]) -> u64 {
     // SAFETY: pointers and lengths are those of borrowed slices.
     unsafe { baseline_find(image.as_ptr(), image.len(), tag.as_ptr(), tag.len()) }
+}
+
+pub fn tidy(image: &[u8], out: &mut [u8]) -> u64 {
+    // SAFETY: pointers and lengths are those of borrowed slices, of which the written one is borrowed as mutable.
+    unsafe { baseline_tidy(image.as_ptr(), image.len(), out.as_mut_ptr(), out.len()) }
 }

@@ -1,9 +1,9 @@
-//! The table check and the lookup at 1, 8 and 64 blocks, all wired.
+//! The table check, the lookup and tidying at 1, 8 and 64 blocks, all wired.
 
 use crate::baseline::{self, PLAIN_C};
 use crate::timing::{head, line, nanoseconds};
 use lane::{ffi, image, Block, Engine, Flag, Kind, Tag, Wire};
-use reference::table;
+use reference::{table, tidy};
 use std::hint::black_box;
 
 /// Numbers of blocks that are measured.
@@ -31,12 +31,28 @@ pub fn wired(blocks: usize) -> Vec<u8> {
     image(&(0..blocks).map(block).collect::<Vec<_>>())
 }
 
+/// Tidying, which all have to do alike.
+fn tidying(table: &[u8]) -> [f64; 3] {
+    let image = || black_box(table);
+    let mut outs = [0, 1, 2].map(|_| vec![0; table.len()]);
+    let [engine, other, plain] = &mut outs;
+    ffi::tidy(table, engine).expect("an accepted table");
+    tidy::tidy(table, other).expect("an accepted table");
+    baseline::tidy(table, plain);
+    assert!(engine == other && engine == plain);
+    nanoseconds([
+        &mut || _ = black_box(ffi::tidy(image(), engine)),
+        &mut || _ = black_box(tidy::tidy(image(), other)),
+        &mut || _ = black_box(baseline::tidy(image(), plain)),
+    ])
+}
+
 /// Measures and prints.
 pub fn run() {
     println!("Nanoseconds a call (median), the engine's ratio to the others, its growth.");
-    println!("Table: every input has a wire. Nothing is written, so no buffer is cleared.");
+    println!("Table: every input has a wire. No buffer is cleared between calls.");
     head(&OTHERS);
-    let mut first = [None; 3];
+    let mut first = [None; 4];
     for blocks in SIZES {
         let table = wired(blocks);
         Engine::new(&table).expect("an accepted table");
@@ -54,8 +70,9 @@ pub fn run() {
                 &mut || _ = black_box(baseline::find(image(), tag.as_bytes())),
             ])
         });
-        let names = ["check", "find, the last", "find, absent"];
-        for ((name, times), first) in names.iter().zip([check, found, absent]).zip(&mut first) {
+        let names = ["check", "find, the last", "find, absent", "tidy"];
+        let all = [check, found, absent, tidying(&table)];
+        for ((name, times), first) in names.iter().zip(all).zip(&mut first) {
             line(name, blocks, &OTHERS, &times, first);
         }
     }

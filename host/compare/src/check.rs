@@ -1,18 +1,22 @@
 //! One call of each implementation on the same bytes. Where they differ, the call is given as a
 //! line for `replay`.
 
-use crate::text::{self, Answer};
+use crate::text::{self, slice, Answer};
 use lane::ffi;
-use reference::table;
+use reference::{table, tidy as rules};
 
-/// The message of two answers that differ.
-fn differ(call: &str, engine: Answer, reference: Answer) -> String {
+/// The message of a difference, with the call as a line for `replay`.
+pub(crate) fn differ(call: &str, engine: &str, reference: &str) -> String {
     format!(
-        "the engine answers {}, the reference {}\n\
-         run it again: cargo run -p compare --bin replay -- {call}",
-        text::answer(engine),
-        text::answer(reference)
+        "the engine gives    {engine}\n\
+         the reference gives {reference}\n\
+         run it again: cargo run -p compare --bin replay -- {call}"
     )
+}
+
+/// What both implementations give. Fails with the case where they differ.
+pub fn agreed<T>(case: u64, result: Result<T, String>) -> T {
+    result.unwrap_or_else(|message| panic!("case {case}: {message}"))
 }
 
 /// The answer of both implementations to a table check.
@@ -22,8 +26,9 @@ pub fn check(image: &[u8]) -> Result<Answer, String> {
     if engine == reference {
         return Ok(engine);
     }
-    let call = format!("check {}", text::slice(image));
-    Err(differ(&call, engine, reference))
+    let call = format!("check {}", slice(image));
+    let (engine, reference) = (text::answer(engine), text::answer(reference));
+    Err(differ(&call, &engine, &reference))
 }
 
 /// The answer of both implementations to a lookup.
@@ -33,15 +38,53 @@ pub fn find(image: &[u8], tag: &[u8]) -> Result<Answer, String> {
     if engine == reference {
         return Ok(engine);
     }
-    let call = format!("find {} {}", text::slice(image), text::slice(tag));
-    Err(differ(&call, engine, reference))
+    let call = format!("find {} {}", slice(image), slice(tag));
+    let (engine, reference) = (text::answer(engine), text::answer(reference));
+    Err(differ(&call, &engine, &reference))
 }
 
-/// Runs a call on the table, given in words: its answer.
-pub fn run(words: &[&str]) -> Result<Answer, String> {
+/// A call that writes one buffer, by both implementations: the answer, and the buffer as both left
+/// it. A refused one must leave it as it was.
+pub(crate) fn lent(
+    word: &str,
+    image: &[u8],
+    given: &[u8],
+    by_engine: fn(&[u8], &mut [u8]) -> Answer,
+    by_reference: fn(&[u8], &mut [u8]) -> Result<usize, table::Refusal>,
+) -> Result<(Answer, Vec<u8>), String> {
+    let (mut engine, mut reference) = (given.to_vec(), given.to_vec());
+    let answer = by_engine(image, &mut engine);
+    let expected = text::from_reference(by_reference(image, &mut reference));
+    let call = || format!("{word} {} {}", slice(image), slice(given));
+    if answer != expected || engine != reference {
+        let engine = text::left(answer, &[&engine]);
+        let reference = text::left(expected, &[&reference]);
+        return Err(differ(&call(), &engine, &reference));
+    }
+    if answer.is_err() && engine != given {
+        return Err(format!("a refused call wrote: {}", call()));
+    }
+    Ok((answer, engine))
+}
+
+/// Tidies a table by both implementations: the answer, and the lent image as both left it.
+pub fn tidy(image: &[u8], out: &[u8]) -> Result<(Answer, Vec<u8>), String> {
+    lent("tidy", image, out, ffi::tidy, rules::tidy)
+}
+
+/// Runs a call on the table, given in words: what it answers and leaves, as text.
+pub fn run(words: &[&str]) -> Result<String, String> {
     match words {
-        ["check", image] => check(&text::parse_slice(image)?),
-        ["find", image, tag] => find(&text::parse_slice(image)?, &text::parse_slice(tag)?),
-        _ => Err(format!("not `check IMAGE` or `find IMAGE TAG`: {words:?}")),
+        ["check", image] => check(&text::parse_slice(image)?).map(text::answer),
+        ["find", image, tag] => {
+            find(&text::parse_slice(image)?, &text::parse_slice(tag)?).map(text::answer)
+        }
+        ["tidy", image, out] => {
+            let (answer, out) = tidy(&text::parse_slice(image)?, &text::parse_slice(out)?)?;
+            Ok(text::left(answer, &[&out]))
+        }
+        _ => Err(format!(
+            "not `check IMAGE`, `find IMAGE TAG` or `tidy IMAGE OUT`: {words:?}"
+        )),
     }
 }

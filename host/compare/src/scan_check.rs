@@ -1,23 +1,14 @@
 //! One fresh state or scan by each implementation on the same bytes: answers and all buffers.
 
+use crate::check::{self, differ, lent};
 use crate::scans::Buffers;
 use crate::text::{self, slice, Answer};
 use lane::ffi;
 use reference::scan as rules;
 
-/// The message of a difference, with the call as a line for `replay`.
-fn differ(call: &str, engine: &str, reference: &str) -> String {
-    format!(
-        "the engine gives    {engine}\n\
-         the reference gives {reference}\n\
-         run it again: cargo run -p compare --bin replay -- {call}"
-    )
-}
-
 /// What a scan left, as text.
 fn left(answer: Answer, scan: &Buffers) -> String {
-    let buffers = [&scan.state, &scan.report, &scan.journal].map(|bytes| slice(bytes));
-    format!("{} {}", text::answer(answer), buffers.join(" "))
+    text::left(answer, &[&scan.state, &scan.report, &scan.journal])
 }
 
 /// The call of a scan, as text.
@@ -76,19 +67,7 @@ pub fn scan(given: &Buffers) -> Result<(Answer, Buffers), String> {
 
 /// Makes a state fresh by both implementations: the answer, and the state as both left it.
 pub fn fresh(image: &[u8], state: &[u8]) -> Result<(Answer, Vec<u8>), String> {
-    let (mut engine, mut reference) = (state.to_vec(), state.to_vec());
-    let answer = ffi::fresh(image, &mut engine);
-    let expected = text::from_reference(rules::fresh(image, &mut reference));
-    let call = || format!("fresh {} {}", slice(image), slice(state));
-    if answer != expected || engine != reference {
-        let engine = format!("{} {}", text::answer(answer), slice(&engine));
-        let reference = format!("{} {}", text::answer(expected), slice(&reference));
-        return Err(differ(&call(), &engine, &reference));
-    }
-    if answer.is_err() && engine != state {
-        return Err(format!("a refused call wrote: {}", call()));
-    }
-    Ok((answer, engine))
+    lent("fresh", image, state, ffi::fresh, rules::fresh)
 }
 
 /// Runs a call given in words: what it answers and leaves, as text.
@@ -96,7 +75,7 @@ pub fn run(words: &[&str]) -> Result<String, String> {
     match words {
         ["fresh", image, state] => {
             let (answer, state) = fresh(&text::parse_slice(image)?, &text::parse_slice(state)?)?;
-            Ok(format!("{} {}", text::answer(answer), slice(&state)))
+            Ok(text::left(answer, &[&state]))
         }
         ["scan", image, state, frame, report, journal] => {
             let given = Buffers {
@@ -109,6 +88,6 @@ pub fn run(words: &[&str]) -> Result<String, String> {
             let (answer, after) = scan(&given)?;
             Ok(left(answer, &after))
         }
-        _ => crate::check::run(words).map(text::answer),
+        _ => check::run(words),
     }
 }

@@ -2,7 +2,7 @@
 
 use crate::records::{entry, sound, spoil_entry, unsound, Clock, Drive};
 use crate::rng::Rng;
-use crate::tables::{Fault, Table};
+use crate::tables::{Fault, Size, Table};
 use lane::{Refusal, ENTRY_BYTES, EVENT_BYTES, RECORD_BYTES, REPORT_BYTES};
 
 /// All that one scan is given.
@@ -16,7 +16,7 @@ pub struct Buffers {
 }
 
 /// So many bytes of some pattern, to show what was written.
-fn noise(rng: &mut Rng, count: usize) -> Vec<u8> {
+pub fn noise(rng: &mut Rng, count: usize) -> Vec<u8> {
     let mut byte = rng.byte(0, 255);
     let step = rng.pick(&[0u8, 1, 7]);
     let mut next = || {
@@ -52,6 +52,18 @@ fn other_length(rng: &mut Rng, length: usize, before: usize) -> usize {
             return other;
         }
     }
+}
+
+/// A table for a list of scans: mostly of a few blocks, sometimes full.
+pub fn table(rng: &mut Rng) -> Table {
+    let blocks = match rng.below(16) {
+        0..=5 => rng.range(1, 2),
+        6..=11 => rng.range(3, 8),
+        12..=14 => rng.range(9, 63),
+        _ => rng.pick(&[0, 64]),
+    };
+    let slots = rng.range(blocks.max(1), 64.min(blocks + 4));
+    Table::new(rng, Size { slots, blocks })
 }
 
 /// A sound state of a table: of blocks at any step.
@@ -143,6 +155,28 @@ impl List {
                 (blocks > 0).then_some(Refusal::new(41, 0))
             }
         }
+    }
+
+    /// At times, makes something wrong in what a scan is given: the refusals that each fault alone must give,
+    /// `None` where nothing is known of the answer.
+    pub fn spoil(&self, rng: &mut Rng, given: &mut Buffers) -> Option<Vec<Refusal>> {
+        let mut refusals = Vec::new();
+        match rng.below(8) {
+            0 => {
+                let count = rng.pick(&[1, 1, 2, 3]);
+                let mut kinds = Wrong::ALL;
+                rng.shuffle(&mut kinds);
+                for kind in &kinds[..count] {
+                    refusals.extend(self.damage(rng, given, *kind));
+                }
+            }
+            1 if rng.one_in(4) => {
+                self.scramble(rng, given);
+                return None;
+            }
+            _ => {}
+        }
+        Some(refusals)
     }
 
     /// Gives a scan a table with a fault.

@@ -4,16 +4,16 @@ use crate::rng::Rng;
 use lane::Refusal;
 
 /// Bytes before the first slot, and of a slot.
-const HEADER: usize = 4;
-const SLOT: usize = 16;
+pub(crate) const HEADER: usize = 4;
+pub(crate) const SLOT: usize = 16;
 
 /// Places of a slot's fields.
-const KIND: usize = 0;
-const NEXT: usize = 1;
-const START: usize = 2;
-const ABORT: usize = 4;
+pub(crate) const KIND: usize = 0;
+pub(crate) const NEXT: usize = 1;
+pub(crate) const START: usize = 2;
+pub(crate) const ABORT: usize = 4;
 const ZERO: usize = 6;
-const TAG: usize = 8;
+pub(crate) const TAG: usize = 8;
 
 /// A valid table and the chain it was made with.
 #[derive(Clone, Debug)]
@@ -49,7 +49,7 @@ impl Size {
 }
 
 /// The kinds with an abort input.
-fn has_abort(kind: u8) -> bool {
+pub(crate) fn has_abort(kind: u8) -> bool {
     (5..=8).contains(&kind)
 }
 
@@ -190,7 +190,7 @@ fn underscore_after_space(rng: &mut Rng, tag: &mut [u8; 8]) {
 }
 
 /// The code of a wire: one of the four flags, inverted or not.
-fn wire_code(rng: &mut Rng) -> u8 {
+pub(crate) fn wire_code(rng: &mut Rng) -> u8 {
     rng.byte(0, 3) | rng.pick(&[0, 0x80])
 }
 
@@ -252,17 +252,21 @@ impl Table {
         }
     }
 
-    /// The bytes of a slot, numbered from 1.
+    /// The bytes of a slot, numbered from 1, to change them.
     fn slot(&mut self, slot: u8) -> &mut [u8] {
         let at = HEADER + SLOT * (usize::from(slot) - 1);
         &mut self.image[at..at + SLOT]
     }
 
+    /// The bytes of a slot, numbered from 1.
+    pub(crate) fn bytes(&self, slot: u8) -> &[u8] {
+        &self.image[HEADER + SLOT * (usize::from(slot) - 1)..][..SLOT]
+    }
+
     /// The tag in a slot.
     pub fn tag(&self, slot: u8) -> [u8; 8] {
-        let at = HEADER + SLOT * (usize::from(slot) - 1) + TAG;
         let mut tag = [0; 8];
-        tag.copy_from_slice(&self.image[at..at + 8]);
+        tag.copy_from_slice(&self.bytes(slot)[TAG..]);
         tag
     }
 
@@ -273,11 +277,16 @@ impl Table {
 
     /// The kind in a slot.
     pub fn kind(&self, slot: u8) -> u8 {
-        self.image[HEADER + SLOT * (usize::from(slot) - 1) + KIND]
+        self.bytes(slot)[KIND]
+    }
+
+    /// The length of its tidy image.
+    pub fn tidy_length(&self) -> usize {
+        HEADER + SLOT * self.chain.len().max(1)
     }
 
     /// The number of slots.
-    fn slots(&self) -> u8 {
+    pub(crate) fn slots(&self) -> u8 {
         ((self.image.len() - HEADER) / SLOT) as u8
     }
 

@@ -1,8 +1,23 @@
-//! Counts of what was seen in a test.
+//! Counts of what was seen in a test, and the numbers of the refusals.
 
 use crate::text::Answer;
 use std::collections::BTreeMap;
 use std::fmt;
+use std::ops::RangeInclusive;
+
+/// The numbers of the table checks, and of those that name a slot.
+pub const TABLE: RangeInclusive<u32> = 1..=11;
+pub const SLOT: RangeInclusive<u32> = 5..=11;
+
+/// The numbers that a scan of an accepted table gives, and of those that name a position.
+pub const SCAN: [u32; 6] = [20, 21, 30, 31, 40, 41];
+pub const POSITION: [u32; 2] = [21, 31];
+
+/// The numbers that a lookup in an accepted table gives.
+pub const LOOKUP: [u32; 2] = [50, 51];
+
+/// The number that tidying an accepted table gives.
+pub const TIDY: u32 = 60;
 
 /// How often each answer was seen: accepted calls, and refusals by number and place.
 #[derive(Clone, Debug, Default)]

@@ -33,6 +33,12 @@ pub fn answer(answer: Answer) -> String {
     }
 }
 
+/// An answer, and the buffers that the call left, as text.
+pub fn left(given: Answer, buffers: &[&[u8]]) -> String {
+    let buffers = buffers.iter().map(|bytes| format!(" {}", slice(bytes)));
+    format!("{}{}", answer(given), buffers.collect::<String>())
+}
+
 /// The answer at the front of these words, and the words after it.
 pub fn parse_answer<'a, 'b>(words: &'b [&'a str]) -> Result<(Answer, &'b [&'a str]), String> {
     let number = |word: &str| word.parse().map_err(|e| format!("{word}: {e}"));

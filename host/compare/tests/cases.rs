@@ -1,13 +1,14 @@
-//! Scans and fresh states given as bytes, with the bytes that they must leave, through the engine and
-//! the reference.
+//! Scans, fresh states and tidy tables given as bytes, with the bytes that they must leave, through the
+//! engine and the reference.
 
 use compare::scan_check::{fresh, run};
-use compare::tally::Tally;
+use compare::tally::{Tally, LOOKUP, POSITION, SCAN, SLOT, TABLE, TIDY};
 use compare::text::{parse_answer, parse_slice};
 use lane::RECORD_BYTES;
 
 const SCANS: &str = include_str!("../data/cases.txt");
 const READINGS: &str = include_str!("../data/scan_cases.txt");
+const TIDIES: &str = include_str!("../data/tidy_cases.txt");
 
 /// The words of a line before and after the equals sign.
 fn sides(line: &str) -> (Vec<&str>, &str) {
@@ -57,14 +58,31 @@ fn scans() {
     assert_eq!((cases, tally.accepted()), (87, 182));
 }
 
-#[test]
-fn readings() {
+/// Runs named cases, one a line.
+fn named(cases: &str) -> Tally {
     let mut tally = Tally::default();
-    for line in READINGS.lines().filter(|line| !line.starts_with('#')) {
+    for line in cases.lines().filter(|line| !line.starts_with('#')) {
         let (words, left) = sides(line);
         check(words[0], &words[1..], left, &mut tally);
     }
     print!("{tally}");
-    tally.expect([20, 21, 30, 31, 40, 41]);
-    tally.expect_places([21, 31]);
+    tally
+}
+
+#[test]
+fn readings() {
+    let tally = named(READINGS);
+    tally.expect(SCAN);
+    tally.expect_places(POSITION);
+}
+
+#[test]
+fn tidy_tables() {
+    let tally = named(TIDIES);
+    tally.expect(TABLE);
+    tally.expect(SCAN);
+    tally.expect(LOOKUP);
+    tally.expect([TIDY]);
+    tally.expect_places(SLOT);
+    tally.expect_places(POSITION);
 }

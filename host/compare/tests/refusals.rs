@@ -1,56 +1,74 @@
-//! Every refusal of the table checks and the lookup, with its place and its order among the others:
-//! the cases of `data/table_cases.txt` through the engine and the reference.
+//! Every refusal of the table checks, the lookup and tidying, with its place and its order among the others:
+//! the cases of `data/table_cases.txt` through the engine and the reference, and the places that the binding
+//! names in them and in those of `data/tidy_cases.txt`.
 
-use compare::tally::Tally;
-use compare::text::{answer, parse_answer};
-use lane::{Engine, Place};
+use compare::tally::{Tally, LOOKUP, SLOT, TABLE, TIDY};
+use compare::text::{parse_answer, parse_slice};
+use lane::{ffi, Engine, Place, Refusal};
 
-const CASES: &str = include_str!("../data/table_cases.txt");
+const TABLES: &str = include_str!("../data/table_cases.txt");
+const TIDIES: &str = include_str!("../data/tidy_cases.txt");
 
-/// The cases: name, words of the call, words of the answer.
-fn cases() -> impl Iterator<Item = (&'static str, Vec<&'static str>, Vec<&'static str>)> {
-    let lines = CASES.lines().filter(|line| !line.starts_with('#'));
+/// The cases: name, words of the call, what it gives.
+fn cases(text: &str) -> impl Iterator<Item = (&str, Vec<&str>, &str)> {
+    let lines = text.lines().filter(|line| !line.starts_with('#'));
     lines.map(|line| {
         let (call, expected) = line.split_once(" = ").expect("CALL = ANSWER");
         let mut words = call.split_whitespace();
         let name = words.next().expect("a name");
-        (name, words.collect(), expected.split_whitespace().collect())
+        (name, words.collect(), expected)
     })
 }
 
 #[test]
 fn cases_of_the_table() {
     let mut tally = Tally::default();
-    for (name, call, expected) in cases() {
+    for (name, call, expected) in cases(TABLES) {
         let given = compare::check::run(&call).unwrap_or_else(|e| panic!("{name}: {e}"));
-        let (expected, rest) = parse_answer(&expected).unwrap_or_else(|e| panic!("{name}: {e}"));
+        assert_eq!(given, expected, "{name}");
+        let words: Vec<&str> = given.split_whitespace().collect();
+        let (answer, rest) = parse_answer(&words).unwrap_or_else(|e| panic!("{name}: {e}"));
         assert!(rest.is_empty(), "{name}: {rest:?} after the answer");
-        assert_eq!(answer(given), answer(expected), "{name}");
-        tally.add(given);
+        tally.add(answer);
     }
     print!("{tally}");
-    tally.expect(1..=11);
-    tally.expect([50, 51]);
-    tally.expect_places(5..=11);
+    tally.expect(TABLE);
+    tally.expect(LOOKUP);
+    tally.expect_places(SLOT);
+}
+
+/// The refusal that the binding gives in a case, if it checks a table or tidies one.
+fn refusal(call: &[&str]) -> Option<Refusal> {
+    let bytes = |word: &str| parse_slice(word).expect("a slice");
+    match call {
+        ["check", image] => Engine::new(&bytes(image)).err(),
+        ["tidy", image, out] => ffi::tidy(&bytes(image), &mut bytes(out)).err(),
+        _ => None,
+    }
 }
 
 /// The binding gives the same places by their kind, and names them in its sentence.
 #[test]
 fn places_are_named() {
-    for (name, call, _) in cases() {
-        let ["check", image] = call[..] else { continue };
-        let image = compare::text::parse_slice(image).expect("a slice");
-        let Err(refusal) = Engine::new(&image) else {
+    let mut tally = Tally::default();
+    for (name, call, _) in cases(TABLES).chain(cases(TIDIES)) {
+        let Some(refusal) = refusal(&call) else {
             continue;
         };
-        let text = refusal.to_string();
+        let (number, text) = (refusal.number(), refusal.to_string());
         match refusal.place() {
-            Place::Unnamed => assert!(refusal.number() <= 5 && !text.contains(" at "), "{name}"),
+            Place::Unnamed => {
+                let unnamed = number <= 5 || number == TIDY;
+                assert!(unnamed && !text.contains(" at "), "{name}: {text}");
+            }
             place @ Place::Slot(_) => {
-                let front = format!("refused {} at {place}: ", refusal.number());
+                let front = format!("refused {number} at {place}: ");
                 assert!(text.starts_with(&front), "{name}: {text}");
             }
             _ => panic!("{name}: {text}"),
         }
+        tally.add(Err(refusal));
     }
+    tally.expect(TABLE);
+    tally.expect([TIDY]);
 }

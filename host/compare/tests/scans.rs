@@ -3,16 +3,17 @@
 //! `LANE_SEED` sets the seed, `LANE_ROUNDS` multiplies the number of lists. A failing scan is printed as
 //! a command that runs it again.
 
+use compare::check::agreed;
 use compare::forms::Forms;
 use compare::jobs::Jobs;
 use compare::layouts::Layouts;
 use compare::records::{entry, sound, Clock, Drive};
 use compare::rng::{settings, Rng};
 use compare::scan_check::{fresh, line, scan};
-use compare::scans::{before, sound_state, Buffers, List, Wrong, EVENTS_BYTES};
+use compare::scans::{before, sound_state, table, Buffers, List, Wrong, EVENTS_BYTES};
 use compare::seen::{events_of, Seen};
 use compare::tables::{Fault, Size, Table};
-use compare::tally::Tally;
+use compare::tally::{Tally, POSITION, SCAN, TABLE};
 use compare::text::{answer, Answer};
 use lane::{Engine, Entry, EventKind, Frame, Record, Refusal, ReportEntry, State};
 use lane::{ENTRY_BYTES, EVENT_BYTES, RECORD_BYTES, REPORT_BYTES};
@@ -20,26 +21,6 @@ use reference::layout;
 use reference::layout::{entry as at_entry, record as at};
 use reference::machine;
 use std::iter;
-
-/// The numbers that a scan of an accepted table gives.
-const SCAN: [u32; 6] = [20, 21, 30, 31, 40, 41];
-
-/// A table for a list of scans: mostly of a few blocks, sometimes full.
-fn table(rng: &mut Rng) -> Table {
-    let blocks = match rng.below(16) {
-        0..=5 => rng.range(1, 2),
-        6..=11 => rng.range(3, 8),
-        12..=14 => rng.range(9, 63),
-        _ => rng.pick(&[0, 64]),
-    };
-    let slots = rng.range(blocks.max(1), 64.min(blocks + 4));
-    Table::new(rng, Size { slots, blocks })
-}
-
-/// Fails with the case where the two implementations differ.
-fn agreed<T>(case: u64, result: Result<T, String>) -> T {
-    result.unwrap_or_else(|message| panic!("list {case}: {message}"))
-}
 
 /// Fails where both answer something else than the damage asks for.
 fn expect(case: u64, given: &Buffers, expected: Answer, found: Answer) {
@@ -81,28 +62,6 @@ impl Turns {
     }
 }
 
-/// At times, makes something wrong in what a scan is given: the refusals that each fault alone must give,
-/// `None` where nothing is known of the answer.
-fn spoil(rng: &mut Rng, list: &List, given: &mut Buffers) -> Option<Vec<Refusal>> {
-    let mut refusals = Vec::new();
-    match rng.below(8) {
-        0 => {
-            let count = rng.pick(&[1, 1, 2, 3]);
-            let mut kinds = Wrong::ALL;
-            rng.shuffle(&mut kinds);
-            for kind in &kinds[..count] {
-                refusals.extend(list.damage(rng, given, *kind));
-            }
-        }
-        1 if rng.one_in(4) => {
-            list.scramble(rng, given);
-            return None;
-        }
-        _ => {}
-    }
-    Some(refusals)
-}
-
 /// Fails unless the answer is the first of these refusals that the checks meet, or accepted without any.
 fn expect_first(case: u64, given: &Buffers, refusals: &[Refusal], found: Answer) {
     let place = |refusal: &&Refusal| (refusal.number(), refusal.place_number());
@@ -137,8 +96,8 @@ impl Met {
     fn expect_refusals(&self) {
         print!("{}{}", self.tally, self.layouts);
         self.tally.expect(SCAN);
-        self.tally.expect(1..=11);
-        self.tally.expect_places([21, 31]);
+        self.tally.expect(TABLE);
+        self.tally.expect_places(POSITION);
         self.layouts.expect_often();
     }
 
@@ -159,7 +118,7 @@ fn step(
     met: &mut Met,
 ) -> (Buffers, Buffers, Answer) {
     let mut given = list.scan(rng, state);
-    let refusals = spoil(rng, list, &mut given);
+    let refusals = list.spoil(rng, &mut given);
     let (found, after) = agreed(case, scan(&given));
     if let Some(refusals) = refusals {
         expect_first(case, &given, &refusals, found);
@@ -407,7 +366,7 @@ fn fresh_states() {
         }
     }
     print!("{tally}refused 20\n{lengths}");
-    tally.expect(1..=11);
+    tally.expect(TABLE);
     tally.expect([20]);
     lengths.expect(20);
 }

@@ -3,25 +3,16 @@
 //! `LANE_SEED` sets the seed, `LANE_ROUNDS` multiplies the number of cases. A failing case is
 //! printed as a command that runs it again.
 
-use compare::check::{check, find};
+use compare::check::{agreed, check, find};
 use compare::forms::{pairs, Forms};
 use compare::rng::{settings, Rng};
 use compare::tables::{alike, no_tag, tag, Fault, Size, Table};
-use compare::tally::Tally;
+use compare::tally::{Tally, LOOKUP, SLOT, TABLE};
 use compare::text::{answer, Answer};
 use compare::underscores::Bytes;
 use lane::{Block, Engine, Kind, Position, Refusal, Tag};
 use lane::{HEADER_BYTES, SLOT_BYTES, TAG_BYTES};
 use std::{array, iter};
-
-/// The numbers of the table checks, and of those that name a slot.
-const TABLE: std::ops::RangeInclusive<u32> = 1..=11;
-const SLOT: std::ops::RangeInclusive<u32> = 5..=11;
-
-/// Fails where the two implementations differ.
-fn agreed(case: u64, answer: Result<Answer, String>) -> Answer {
-    answer.unwrap_or_else(|message| panic!("case {case}: {message}"))
-}
 
 /// Fails where both answer something else than the damage asks for.
 fn expect(case: u64, table: &Table, expected: Answer, given: Answer) {
@@ -257,7 +248,7 @@ impl Lookups {
         print!("{}tables with a tag\n{}", self.tally, self.found);
         print!("refused 50\n{}refused 51\n{}", self.no_tags, self.absent);
         self.tally.expect(TABLE);
-        self.tally.expect([50, 51]);
+        self.tally.expect(LOOKUP);
         self.tally.expect_places(SLOT);
         assert!(self.tally.accepted() > 0);
         self.found.expect(4);

@@ -1,22 +1,24 @@
 //! A call of an exported function.
 
 use compare::text::{parse_slice, slice};
-use reference::{scan, table};
+use reference::{scan, table, tidy};
 
 /// An exported function.
 #[derive(Clone, Copy, Debug, PartialEq, Eq)]
 pub enum Name {
     Check,
     Find,
+    Tidy,
     Fresh,
     Scan,
 }
 
 impl Name {
     /// All of them, with the words and the number of slices of each.
-    const ALL: [(Name, &'static str, usize); 4] = [
+    const ALL: [(Name, &'static str, usize); 5] = [
         (Name::Check, "check", 1),
         (Name::Find, "find", 2),
+        (Name::Tidy, "tidy", 2),
         (Name::Fresh, "fresh", 2),
         (Name::Scan, "scan", 5),
     ];
@@ -69,6 +71,7 @@ impl Call {
         let answer = match (self.name, &mut left[..]) {
             (Name::Check, [image]) => table::check(image),
             (Name::Find, [image, tag]) => table::find(image, tag),
+            (Name::Tidy, [image, out]) => tidy::tidy(image, out),
             (Name::Fresh, [image, state]) => scan::fresh(image, state),
             (Name::Scan, [image, state, frame, report, journal]) => {
                 scan::scan(image, state, frame, report, journal)

@@ -7,11 +7,12 @@ use compare::tables::{alike, no_tag, tag, Fault, Size, Table};
 use lane::RECORD_BYTES;
 
 /// Calls kept as text, one a line: `[NAME] FUNCTION SLICE .. [= ANSWER ..]`.
-const KEPT: [&str; 4] = [
+const KEPT: [&str; 5] = [
     include_str!("../corpus.txt"),
     include_str!("../../compare/data/table_cases.txt"),
     include_str!("../../compare/data/cases.txt"),
     include_str!("../../compare/data/scan_cases.txt"),
+    include_str!("../../compare/data/tidy_cases.txt"),
 ];
 
 /// The call of a line.
@@ -71,11 +72,21 @@ fn scan(rng: &mut Rng, table: Table) -> Vec<Vec<u8>> {
     slices.to_vec()
 }
 
+/// The functions of new calls: a scan twice as often as each of the others.
+const NAMES: [Name; 6] = [
+    Name::Check,
+    Name::Find,
+    Name::Tidy,
+    Name::Fresh,
+    Name::Scan,
+    Name::Scan,
+];
+
 /// A new call, with a table that the engine accepts or one fault in it.
 fn new(rng: &mut Rng) -> Call {
     let size = Size::any(rng);
     let mut table = Table::new(rng, size);
-    let name = rng.pick(&[Name::Check, Name::Find, Name::Fresh, Name::Scan, Name::Scan]);
+    let name = rng.pick(&NAMES);
     let wanted = wanted(rng, &table);
     if name != Name::Scan && rng.one_in(4) {
         let fault = rng.pick(&Fault::ALL);
@@ -84,6 +95,10 @@ fn new(rng: &mut Rng) -> Call {
     let slices = match name {
         Name::Check => vec![table.image],
         Name::Find => vec![table.image, wanted],
+        Name::Tidy => {
+            let out = noise(rng, table.tidy_length());
+            vec![table.image, out]
+        }
         Name::Fresh => {
             let state = noise(rng, RECORD_BYTES * table.chain.len());
             vec![table.image, state]

@@ -4,7 +4,7 @@
 //! that fails is printed: as a line of `corpus.txt` it is tried in every run.
 
 use compare::rng::{settings, Rng};
-use compare::tally::Tally;
+use compare::tally::{Tally, LOOKUP, SCAN, TABLE, TIDY};
 use fuzz::call::Call;
 use fuzz::cases::{any, kept};
 use fuzz::engine::Engine;
@@ -33,7 +33,7 @@ fn compare(engine: &mut Engine, call: &Call, tally: &mut Tally) {
 
 /// Every number of a refusal.
 fn numbers() -> impl Iterator<Item = u32> {
-    (1..=11).chain([20, 21, 30, 31, 40, 41, 50, 51])
+    TABLE.chain(SCAN).chain(LOOKUP).chain([TIDY])
 }
 
 #[test]

@@ -92,6 +92,35 @@ impl Engine {
         self.find(tag).map(|position| self.slot(position))
     }
 
+    /// The engine over the same table written anew: the blocks in chain order in slots 1, 2, 3 and on, wires
+    /// renumbered, no spare slots; of a table of no blocks, one zero slot.
+    ///
+    /// Fresh states, scans and positions are the same over both, so that a state goes on under either; what
+    /// [`show`](Engine::show) hands back is not.
+    ///
+    /// ```
+    /// use lane::{image, Block, Engine, Flag, Kind, Wire};
+    ///
+    /// let lane0 = Block::new(Kind::ETrig, "LANE0".parse()?);
+    /// let lane1 = Block::new(Kind::ETrig, "LANE1".parse()?);
+    /// let mut bytes = image(&[lane1.start(Wire::new(2, Flag::Done)), lane0]);
+    /// (bytes[2], bytes[5], bytes[21]) = (2, 0, 1); // the chain is slot 2, slot 1
+    /// let engine = Engine::new(&bytes)?;
+    /// let tidy = engine.tidy();
+    /// assert_eq!(tidy.image(), image(&[lane0, lane1.start(Wire::new(1, Flag::Done))]));
+    /// assert_eq!(tidy.find(lane1.tag)?, engine.find(lane1.tag)?);
+    /// assert_ne!(tidy.show(lane1.tag)?, engine.show(lane1.tag)?);
+    /// assert_eq!(tidy.tidy(), tidy);
+    /// # Ok::<(), Box<dyn std::error::Error>>(())
+    /// ```
+    #[must_use]
+    pub fn tidy(&self) -> Engine {
+        let mut image = vec![0; HEADER_BYTES + SLOT_BYTES * self.blocks.max(1)];
+        let written = ffi::tidy(&self.image, &mut image);
+        debug_assert!(written.is_ok(), "an accepted table has a tidy: {written:?}");
+        Engine { image, ..*self }
+    }
+
     /// The slot of the block at a position of the chain, by its links.
     fn slot(&self, position: Position) -> &[u8; SLOT_BYTES] {
         let (slots, _) = self.image[HEADER_BYTES..].as_chunks();

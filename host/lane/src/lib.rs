@@ -2,8 +2,8 @@
 //!
 //! The engine is an archive of C functions over byte slices. This crate gives its buffers types:
 //!
-//! - [`Engine`] holds a table that the engine has accepted, finds and shows tags, makes fresh states and
-//!   runs scans.
+//! - [`Engine`] holds a table that the engine has accepted, finds and shows tags, writes the table anew, makes
+//!   fresh states and runs scans.
 //! - [`Block`], [`Kind`], [`Tag`], [`Wire`] and [`image`] write a table.
 //! - [`Position`] is where a block stands in the chain; all buffers go by it.
 //! - [`State`], [`Frame`], [`Report`] and [`Journal`] are the buffers of a scan; [`Record`], [`Entry`],

@@ -93,6 +93,7 @@ impl Refusal {
                  then spaces to eight bytes"
             }
             (51, _) => "no block of the table has this tag",
+            (60, _) => "the lent table's length is not 4 bytes and 16 a block, or 20 of no blocks",
             _ => "no check has this number",
         }
     }

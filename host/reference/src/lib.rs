@@ -1,7 +1,8 @@
 //! A plain statement of the rules of the lane engine, written from the scope
-//! document and requests 1/14 to 3/14 of document 02 alone.
+//! document and requests 1/14 to 5/14 of document 02 alone.
 //!
 //! - [`table`]: the table image, its checks, and the lookup of a tag.
+//! - [`tidy`]: a table written anew without spare slots.
 //! - [`layout`]: the lengths, and where each field lies.
 //! - [`machine`]: one call of one block.
 //! - [`scan`]: a fresh state, and one scan over all blocks of a table.
@@ -16,3 +17,4 @@ pub mod layout;
 pub mod machine;
 pub mod scan;
 pub mod table;
+pub mod tidy;

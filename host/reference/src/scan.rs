@@ -4,12 +4,7 @@
 //! none and has no events."
 
 use crate::machine::{call, Entry, Event, Events, Inputs, Record, Report};
-use crate::table::{chain, Refusal, Slot, Table, Wire};
-
-/// The refusal with this number and place, as the answer of a check.
-fn refuse<T>(number: u8, place: u8) -> Result<T, Refusal> {
-    Err(Refusal { number, place })
-}
+use crate::table::{chain, refuse, Refusal, Slot, Table, Wire};
 
 /// Check 20.
 ///

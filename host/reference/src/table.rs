@@ -3,6 +3,8 @@
 //! "Header, 4 bytes: version 1; slot count N, 1 to 64; head slot, 0 to N; zero.
 //! Then N slots of 16 bytes, numbered from 1."
 
+use crate::layout::put;
+
 /// "slot count N, 1 to 64"
 pub const MAX_SLOTS: usize = 64;
 
@@ -20,7 +22,7 @@ pub struct Refusal {
 }
 
 /// The refusal with this number and place, as the answer of a check.
-fn refuse<T>(number: u8, place: u8) -> Result<T, Refusal> {
+pub(crate) fn refuse<T>(number: u8, place: u8) -> Result<T, Refusal> {
     Err(Refusal { number, place })
 }
 
@@ -114,6 +116,17 @@ impl Slot {
             zero: [b[6], b[7]],
             tag: [b[8], b[9], b[10], b[11], b[12], b[13], b[14], b[15]],
         }
+    }
+
+    /// The sixteen bytes with these fields.
+    pub fn encode(&self) -> [u8; SLOT_SIZE] {
+        let mut bytes = [0; SLOT_SIZE];
+        put(&mut bytes, 0, &[self.kind, self.next]);
+        put(&mut bytes, 2, &[self.start.slot, self.start.code]);
+        put(&mut bytes, 4, &[self.abort.slot, self.abort.code]);
+        put(&mut bytes, 6, &self.zero);
+        put(&mut bytes, 8, &self.tag);
+        bytes
     }
 }
 

@@ -1,8 +1,10 @@
 //! The table checks 1 to 11 and the lookup, 50 and 51, with their places and
 //! their order.
 
-use reference::table::{chain, check, find, is_tag, show, Refusal};
-use reference::table::{HEADER_SIZE, SLOT_SIZE};
+mod rows;
+
+use reference::table::{chain, check, find, is_tag, show, SLOT_SIZE};
+use rows::{at, image, no, row, SPARE};
 
 /// Where some fields of a slot begin.
 const KIND: usize = 0;
@@ -10,32 +12,6 @@ const NEXT: usize = 1;
 const START_CODE: usize = 3;
 const ABORT_CODE: usize = 5;
 const TAG: usize = 8;
-
-/// Where a byte of a slot lies in the image.
-fn at(slot: usize, byte: usize) -> usize {
-    HEADER_SIZE + SLOT_SIZE * (slot - 1) + byte
-}
-
-/// A slot: kind, next, start wire, abort wire, tag.
-type Row = (u8, u8, [u8; 2], [u8; 2], &'static [u8; 8]);
-
-const SPARE: Row = (0, 0, [0, 0], [0, 0], &[0; 8]);
-
-fn image(head: u8, rows: &[Row]) -> Vec<u8> {
-    let mut bytes = vec![1, rows.len() as u8, head, 0];
-    for (kind, next, start, abort, tag) in rows {
-        bytes.extend_from_slice(&[*kind, *next]);
-        bytes.extend_from_slice(start);
-        bytes.extend_from_slice(abort);
-        bytes.extend_from_slice(&[0, 0]);
-        bytes.extend_from_slice(*tag);
-    }
-    bytes
-}
-
-fn row(kind: u8, next: u8, tag: &'static [u8; 8]) -> Row {
-    (kind, next, [0, 0], [0, 0], tag)
-}
 
 /// Three blocks in the order of slots 2, 4, 1, and a spare slot 3.
 fn good() -> Vec<u8> {
@@ -55,10 +31,6 @@ fn with(slot: usize, byte: usize, value: u8) -> Vec<u8> {
     let mut bytes = good();
     bytes[at(slot, byte)] = value;
     bytes
-}
-
-fn no<T>(number: u8, place: u8) -> Result<T, Refusal> {
-    Err(Refusal { number, place })
 }
 
 #[test]

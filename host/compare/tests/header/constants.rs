@@ -320,6 +320,7 @@ pub fn refusals() -> Numbers {
         ("REFUSED_JOURNAL_LENGTH", 41),
         ("REFUSED_LOOKUP_FORM", 50),
         ("REFUSED_LOOKUP_ABSENT", 51),
+        ("REFUSED_TIDY_LENGTH", 60),
         ("PLACE_NONE", 0),
         ("PLACE_SLOT", 1),
         ("PLACE_POSITION", 2),

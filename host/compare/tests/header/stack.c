@@ -10,7 +10,7 @@
 
 enum { BLOCKS = LANE_MAX_BLOCKS, SCANS = 500, FILL = 0xa5 };
 
-static uint8_t image[LANE_HEADER_BYTES + LANE_SLOT_BYTES * BLOCKS];
+static uint8_t image[LANE_HEADER_BYTES + LANE_SLOT_BYTES * BLOCKS], out[sizeof image];
 static uint8_t state[LANE_RECORD_BYTES * BLOCKS], frame[LANE_ENTRY_BYTES * BLOCKS];
 static uint8_t report[LANE_REPORT_BYTES * BLOCKS], journal[2 * LANE_EVENT_BYTES * BLOCKS];
 
@@ -29,6 +29,12 @@ static void find(void)
 {
     top = __builtin_frame_address(0);
     answer = lane_find(image, sizeof image, image + lane_slot_offset(BLOCKS) + LANE_AT_SLOT_TAG, LANE_TAG_BYTES);
+}
+
+static void tidy(void)
+{
+    top = __builtin_frame_address(0);
+    answer = lane_tidy(image, sizeof image, out, sizeof out);
 }
 
 static void fresh(void)
@@ -101,7 +107,7 @@ static void write_frame(uint32_t clock)
 int main(void)
 {
     write_table();
-    size_t depth = deeper(find, deeper(check, deeper(fresh, 0)));
+    size_t depth = deeper(tidy, deeper(find, deeper(check, deeper(fresh, 0))));
     for (uint32_t i = 0; i < SCANS; i++) {
         write_frame(10 * i);
         depth = deeper(scan, depth);

@@ -8,7 +8,7 @@ mod scan;
 mod table;
 
 pub use scan::{fresh, scan};
-pub use table::{check, find};
+pub use table::{check, find, tidy};
 
 use crate::Refusal;
 
