@@ -266,17 +266,11 @@ uint64_t lane_find(const uint8_t *image, size_t image_len, const uint8_t *tag, s
 
 /* Writes a table anew, tidy: its blocks in chain order in slots 1, 2, 3 and on, head 1, the wires renumbered and
  * their codes kept, no spare slots; of a table of no blocks, one zero slot and head 0. Answers the number of
- * blocks. The lent table has lane_tidy_bytes of that number, which lane_check answers too. Over the tidy table
- * lane_fresh, lane_scan and lane_find do the same as over the one that was given, with the same states and frames:
- * a host may put it in that one's place between two scans. Slots differ, and so do lane_slot_at and lane_get_slot.
- * Refusals 1 to 11, 60. */
+ * blocks. The lent buffer has lane_tidy_bytes(blocks) bytes; lane_check answers the same number of blocks. Over
+ * the tidy table lane_fresh, lane_scan and lane_find do the same as over the one that was given, with the same
+ * states and frames: a host may put it in that one's place between two scans. The blocks have other slots, so
+ * lane_slot_at and lane_get_slot give something else. Refusals 1 to 11, 60. */
 uint64_t lane_tidy(const uint8_t *image, size_t image_len, uint8_t *out, size_t out_len);
-
-/* The length of the tidy table of so many blocks. */
-static inline size_t lane_tidy_bytes(uint32_t blocks)
-{
-    return LANE_HEADER_BYTES + (size_t)LANE_SLOT_BYTES * (blocks == 0 ? 1 : blocks);
-}
 
 /* Whether the call was accepted: 1 or 0. */
 static inline int lane_is_accepted(uint64_t answer) { return answer >> 32 == 0; }
@@ -482,6 +476,12 @@ static inline void lane_get_tag(char *name, const uint8_t *tag)
 static inline size_t lane_slot_offset(uint32_t slot)
 {
     return LANE_HEADER_BYTES + (size_t)LANE_SLOT_BYTES * (slot - 1);
+}
+
+/* The length of a table of so many blocks without spare slots, as lane_tidy writes it. */
+static inline size_t lane_tidy_bytes(uint32_t blocks)
+{
+    return LANE_HEADER_BYTES + (size_t)LANE_SLOT_BYTES * (blocks == 0 ? 1 : blocks);
 }
 
 /* The slot of the block at a position of a table that lane_check accepted, 0 if the chain has no such

@@ -7,6 +7,7 @@ ghost use Rattle.image.specs.Image.{imageLength};
 use image::HEADER_LENGTH;
 use image::SLOT_COUNT_OFFSET;
 use image::SLOT_LENGTH;
+use image::START_WIRE_OFFSET;
 use image::VERSION_OFFSET;
 use table::check::Checked;
 use table::lookup::Found;
@@ -160,9 +161,13 @@ fn print_tidy(name: &[u8], image: &[u8], out: &mut [u8]) {
     print_checked(b"tidy ", name, tidy::tidy::tidy(image, out));
 }
 
-// The three lanes tidied stand in slots 1, 2 and 3: found at the same positions, shown with other next slots.
+// The three lanes, IN_2 wired to the done flag of IN_1. Tidied they stand in slots 1, 2 and 3: found at the same positions, shown with another next
+// slot and another slot in the wire.
 fn tidy_three() {
-    let image = three_lanes();
+    let mut image = three_lanes();
+    image[HEADER_LENGTH + SLOT_LENGTH + START_WIRE_OFFSET] = 3;
+    image[HEADER_LENGTH + SLOT_LENGTH + START_WIRE_OFFSET + 1] = 1;
+    print_show(&image, b"IN_2    ");
     let mut short = [0u8; TWO_SLOTS];
     print_tidy(b"three lanes into 36 bytes", &image, &mut short);
     let mut tidied = [0u8; THREE_SLOTS];

@@ -40,7 +40,7 @@ pub none-frame : (chain : List ℕ) (slot code : ℕ) → noWire slot code ≡ t
 none-frame chain slot code h = simp (and-left (eqb slot 0) (eqb code 0) h)
 
 -- no chain has slot 0
-zero-off-chain : (image : List ℕ) → among 0 (chainOf image) ≡ false
+pub zero-off-chain : (image : List ℕ) → among 0 (chainOf image) ≡ false
 zero-off-chain image =
     by-test (among 0 (chainOf image)) (λ m. absurd (omega (arith, all-among (slotCount image) (chainOf image) 0 (chain-in image) m .0))) (λ m. m)
 

@@ -17,6 +17,7 @@ use Rattle.tidy.specs.Encode.{encodedLength}
 use Rattle.tidy.specs.Tidy.{tidyOf, tidyInto}
 use Rattle.tidy.proofs.TidyLaws.{tidy-length}
 
+-- `table` is what the table checks answered, `size` what `encoded_length` answers
 module _ (image out : List ℕ) (table : Checked) (checked : table ≡ checkOf image) where
   abbrev Tidies : Checked → List ℕ → Type 0
   Tidies answer after =

@@ -1,4 +1,4 @@
--- Numbers in order, each one more than the one before: the chain of a table whose blocks stand in slots 1, 2, 3 and on. For EncodedTable.
+-- Numbers in order, each one more than the one before: the chain of a table whose blocks stand in slots 1, 2, 3 and on. For EncodedTable and WireLaws.
 use Prim.Native.Nat.{ℕ, zero, suc, _+_, _≤_, _<_}
 use mathlib.Core.Path.{_≡_, refl, ap, sym, _∙_}
 use mathlib.Core.List.{List, [], _∷_}

@@ -16,16 +16,16 @@ use Rattle.table.proofs.AcceptedLaws.{accepted-blocks}
 use Rattle.table.proofs.Table.{blocks-ok}
 use Rattle.layout.specs.Buffer.{put}
 use Rattle.layout.proofs.BufferLaws.{put-length, put-nothing, put-whole, put-both}
-use Rattle.tidy.specs.Encode.{nextSlot, encodeHead, encodeSlot, encodeSlots, encodeHeader, encodeTable, encodedLength}
+use Rattle.tidy.specs.Encode.{encodeNext, encodeFields, encodeSlot, encodeSlots, encodeHeader, encodeTable, encodedLength}
 use Rattle.tidy.proofs.SlotLaws.{Tagged, slot-length, slots-length, slots-more}
 use Rattle.tidy.proofs.EncodedTable.{ok-tagged}
 
 -- a slot: what stands before the tag, then the tag
 pub slot-put : (b : Block) (next at : ℕ) (tag out middle after : List ℕ) → length tag ≡ tagLength → b .tag ≡ tag → at + slotLength ≤ length out
-    → middle ≡ put at (encodeHead b next) out → after ≡ put (at + tagOffset) tag middle → after ≡ put at (encodeSlot b next) out
+    → middle ≡ put at (encodeFields b next) out → after ≡ put (at + tagOffset) tag middle → after ≡ put at (encodeSlot b next) out
 unfolding encodeSlot
 slot-put b next at tag out middle after full e fits h g =
-    put-both at tagOffset (encodeHead b next) tag out middle after refl (omega arith) h g ∙ ap (λ (t : List ℕ). put at (encodeHead b next ++ t) out) (sym e)
+    put-both at tagOffset (encodeFields b next) tag out middle after refl (omega arith) h g ∙ ap (λ (t : List ℕ). put at (encodeFields b next ++ t) out) (sym e)
 
 -- what the loop of encode::encode_slots keeps: the slots of the first i blocks are written, in a table of n
 pub record Encoding (n : ℕ) (bs : List Block) (out₀ : List ℕ) (i : ℕ) (out : List ℕ) : Type 0 where
@@ -46,7 +46,7 @@ module _ (n : ℕ) (bs : List Block) (out₀ : List ℕ) (i : ℕ) (out : List �
     written = encodeSlots n 1 (take i bs)
 
     abbrev slot : List ℕ
-    slot = encodeSlot (blockAt bs i) (nextSlot n (suc i))
+    slot = encodeSlot (blockAt bs i) (encodeNext n (suc i))
 
     written-length : length written ≡ slotLength * i
     written-length =
@@ -56,11 +56,11 @@ module _ (n : ℕ) (bs : List Block) (out₀ : List ℕ) (i : ℕ) (out : List �
     one-more : encodeSlots n 1 (take (i + 1) bs) ≡ written ++ slot
     one-more =
         let q : 1 + i ≡ suc i = omega arith in
-        rw add-one (slots-more n 1 bs i l ∙ ap (λ (k : ℕ). written ++ encodeSlot (blockAt bs i) (nextSlot n k)) q)
+        rw add-one (slots-more n 1 bs i l ∙ ap (λ (k : ℕ). written ++ encodeSlot (blockAt bs i) (encodeNext n k)) q)
 
     pub encoding-on : (out′ : List ℕ) → out′ ≡ put (imageLength i) slot out → Encoding n bs out₀ (i + 1) out′
     encoding-on out′ e =
-        let own : length slot ≡ slotLength = slot-length (blockAt bs i) (nextSlot n (suc i)) (tagged i l) in
+        let own : length slot ≡ slotLength = slot-length (blockAt bs i) (encodeNext n (suc i)) (tagged i l) in
         let step : out′ ≡ put headerLength (written ++ slot) out₀ =
         put-both headerLength (slotLength * i) written slot out₀ out out′ written-length (omega arith) (w .whole) e in
         record {

@@ -24,7 +24,7 @@ use Rattle.table.specs.declared.check.Checked.the-variants.{Blocks}
 use Rattle.table.proofs.BlockLaws.{blocks-length, block-is}
 use Rattle.table.proofs.TagFormLaws.{form-when}
 use Rattle.table.proofs.Table.{table-accepted}
-use Rattle.tidy.specs.Encode.{nextSlot, encodeTable, EncodedAccepted, EncodedBlocks}
+use Rattle.tidy.specs.Encode.{encodeNext, encodeTable, EncodedAccepted, EncodedBlocks}
 use Rattle.tidy.proofs.CountUp.{countUp, count-length, count-at, count-among}
 use Rattle.tidy.proofs.SlotLaws.{Tagged, SlotHas, slot-has, table-length}
 use Rattle.tidy.proofs.WireLaws.{wire-passes, wire-back}
@@ -33,8 +33,8 @@ pub ok-tagged : (bs : List Block) → BlocksOk bs → Tagged bs
 ok-tagged bs ok i l = ok .each i l .tag .sized
 
 -- where each slot leads to the one after it, and the last to none, they are linked in order
-module _ (image : List ℕ) (n : ℕ) (next : (i : ℕ) → i < n → nextOf image (suc i) ≡ nextSlot n (suc i)) where
-  in-order : (left k : ℕ) → k + left ≡ n → Linked image (nextSlot n k) (countUp (suc k) left)
+module _ (image : List ℕ) (n : ℕ) (next : (i : ℕ) → i < n → nextOf image (suc i) ≡ encodeNext n (suc i)) where
+  in-order : (left k : ℕ) → k + left ≡ n → Linked image (encodeNext n k) (countUp (suc k) left)
   unfolding countUp
   in-order zero k e = simp (le-ltb k n (omega arith)) ended
   in-order (suc left) k e =
@@ -110,13 +110,13 @@ module _ (b : Block) (bs : List Block) (ok : BlocksOk (b ∷ bs)) where
     spares = λ slot p q none. not-both (among slot chain) (count-among 1 n slot p (omega (arith, q))) none;
   }
 
-  pub some-accepted : checkOf image ≡ Blocks n
+  some-accepted : checkOf image ≡ Blocks n
   some-accepted = table-accepted image chain is-table .1 ∙ ap Blocks (count-length 1 n)
 
-  pub some-chain : chainOf image ≡ chain
+  some-chain : chainOf image ≡ chain
   some-chain = table-accepted image chain is-table .0
 
-  pub some-blocks : blocksOf image ≡ all
+  some-blocks : blocksOf image ≡ all
   some-blocks =
       rw some-chain
       (ext-getD noBlock (blocksIn image chain chain) all (blocks-length image chain chain ∙ count-length 1 n)

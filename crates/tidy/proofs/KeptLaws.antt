@@ -1,37 +1,30 @@
--- What the image of an accepted table has of block i in its slot is what is written of it anew: for `encode::encode_head` and for the theorem tidy-slots.
+-- What the image of an accepted table has of block i in its slot is what is written of it anew: for `encode::encode_fields` and `encode::encode_slot`, and for the
+-- theorem tidy-slots.
 use Prim.Native.Nat.{ℕ, _+_, _<_}
 use mathlib.Core.Path.{_≡_, refl, sym}
 use mathlib.Core.List.{List}
-use mathlib.Core.Bool.{true, false}
-use native.Mathlib.Omega.{arith}
+use mathlib.Core.Bool.{true}
 use lib.ListN.{getD}
-use Rattle.membership.specs.Membership.{among}
-use Rattle.membership.proofs.Logic.{by-test}
-use Rattle.membership.proofs.AmongLaws.{all-among}
 use Rattle.words.specs.Word.{Bytes}
-use Rattle.image.specs.Image.{slotCount, slotStart, kindOf, wireSlot, wireCode, startWireOffset, abortWireOffset, tagOf}
+use Rattle.image.specs.Image.{slotStart, kindOf, wireSlot, wireCode, startWireOffset, abortWireOffset, tagOf}
 use Rattle.table.specs.Chain.{chainOf, positionOf}
 use Rattle.table.specs.Record.{wireOk}
 use Rattle.table.specs.Check.{checkOf, Accepted}
 use Rattle.table.specs.Blocks.{Block, wireOf, blockIn, blocksOf, blockAt}
 use Rattle.table.specs.declared.check.Checked.the-variants.{Blocks}
-use Rattle.table.proofs.ChainLaws.{chain-in}
+use Rattle.table.proofs.WireLaws.{zero-off-chain}
 use Rattle.table.proofs.AcceptedLaws.{accepted-block, accepted-record, abort-wire-ok}
 use Rattle.table.proofs.HeldLaws.{held-slot}
-use Rattle.tidy.specs.Encode.{codeOf}
+use Rattle.tidy.specs.Encode.{encodeCode}
 use Rattle.tidy.proofs.WireLaws.{position-kept, code-kept}
 
 pub record BlockKept (image : List ℕ) (b : Block) (slot : ℕ) : Type 0 where
   pub kind : b .kind ≡ kindOf image slot
   pub start : b .start .position ≡ positionOf (wireSlot image slot startWireOffset) (chainOf image)
-  pub start-code : codeOf (b .start) ≡ wireCode image slot startWireOffset
+  pub start-code : encodeCode (b .start) ≡ wireCode image slot startWireOffset
   pub abort : b .abort .position ≡ positionOf (wireSlot image slot abortWireOffset) (chainOf image)
-  pub abort-code : codeOf (b .abort) ≡ wireCode image slot abortWireOffset
+  pub abort-code : encodeCode (b .abort) ≡ wireCode image slot abortWireOffset
   pub tag : b .tag ≡ tagOf image slot
-
--- slot 0 is not on the chain
-none-zero : (image : List ℕ) → among 0 (chainOf image) ≡ false
-none-zero image = by-test (among 0 (chainOf image)) (λ m. absurd (omega (arith, all-among (slotCount image) (chainOf image) 0 (chain-in image) m .0))) (λ m. m)
 
 module _ (image : List ℕ) (n : ℕ) (by : Bytes image) (ok : checkOf image ≡ Blocks n) (i : ℕ) (l : i < n) where
   abbrev slot : ℕ
@@ -41,10 +34,10 @@ module _ (image : List ℕ) (n : ℕ) (by : Bytes image) (ok : checkOf image ≡
   position wire = wireOf (chainOf image) (wireSlot image slot wire) (wireCode image slot wire) .position
 
   wire-position : (wire : ℕ) → position wire ≡ positionOf (wireSlot image slot wire) (chainOf image)
-  wire-position wire = sym (position-kept (chainOf image) (wireSlot image slot wire) (wireCode image slot wire) (none-zero image))
+  wire-position wire = sym (position-kept (chainOf image) (wireSlot image slot wire) (wireCode image slot wire) (zero-off-chain image))
 
   wire-code : (wire : ℕ) → wireOk (chainOf image) (wireSlot image slot wire) (wireCode image slot wire) ≡ true
-      → codeOf (wireOf (chainOf image) (wireSlot image slot wire) (wireCode image slot wire)) ≡ wireCode image slot wire
+      → encodeCode (wireOf (chainOf image) (wireSlot image slot wire) (wireCode image slot wire)) ≡ wireCode image slot wire
   wire-code wire h = sym (code-kept (chainOf image) (wireSlot image slot wire) (wireCode image slot wire) (by (slotStart slot + (wire + 1))) h)
 
   pub block-kept : BlockKept image (blockAt (blocksOf image) i) slot

@@ -1,4 +1,5 @@
--- The slots of an encoded table: their length, the bytes of each, and one slot more. For EncodedTable, and for the loop of `encode::encode_slots`.
+-- The slots of an encoded table: their length, the bytes of each, and one slot more. For EncodedTable, for the theorems tidy-length and tidy-slots, and for
+-- the loop of `encode::encode_slots`.
 use Prim.Native.Nat.{ℕ, zero, suc, _+_, _*_, _<_}
 use mathlib.Core.Path.{_≡_, refl, ap, sym, _∙_}
 use mathlib.Core.List.{List, [], _∷_, _++_, append-assoc, append-nil}
@@ -24,7 +25,7 @@ use Rattle.image.specs.Image.{
   tagOf,
 }
 use Rattle.table.specs.Blocks.{Block, noBlock, blockAt}
-use Rattle.tidy.specs.Encode.{codeOf, nextSlot, encodeSlot, encodeSlots, encodeTable, encodedLength}
+use Rattle.tidy.specs.Encode.{encodeCode, encodeNext, encodeSlot, encodeSlots, encodeTable, encodedLength}
 
 -- every tag has its eight bytes
 abbrev pub Tagged : List Block → Type 0
@@ -38,17 +39,17 @@ pub slots-length : (n k : ℕ) (bs : List Block) → Tagged bs → length (encod
 unfolding encodeSlots
 slots-length n k [] t = refl
 slots-length n k (b ∷ bs) t =
-    simp length-append (omega (arith, slot-length b (nextSlot n k) (t 0 (omega arith)), slots-length n (suc k) bs (λ i l. t (suc i) (omega arith))))
+    simp length-append (omega (arith, slot-length b (encodeNext n k) (t 0 (omega arith)), slots-length n (suc k) bs (λ i l. t (suc i) (omega arith))))
 
 -- from slot k + i on
-pub slots-at : (n k : ℕ) (bs : List Block) → Tagged bs → (i : ℕ) → i < length bs
-    → drop (slotLength * i) (encodeSlots n k bs) ≡ encodeSlot (blockAt bs i) (nextSlot n (k + i)) ++ encodeSlots n (suc (k + i)) (drop (suc i) bs)
+slots-at : (n k : ℕ) (bs : List Block) → Tagged bs → (i : ℕ) → i < length bs
+    → drop (slotLength * i) (encodeSlots n k bs) ≡ encodeSlot (blockAt bs i) (encodeNext n (k + i)) ++ encodeSlots n (suc (k + i)) (drop (suc i) bs)
 unfolding encodeSlots
 slots-at n k [] t i l = absurd (omega arith)
 slots-at n k (b ∷ bs) t zero l = rw add-zero
 slots-at n k (b ∷ bs) t (suc i) l =
-    let own = encodeSlot b (nextSlot n k) in
-    let m : slotLength * suc i ≡ length own + slotLength * i = omega (arith, slot-length b (nextSlot n k) (t 0 (omega arith))) in
+    let own = encodeSlot b (encodeNext n k) in
+    let m : slotLength * suc i ≡ length own + slotLength * i = omega (arith, slot-length b (encodeNext n k) (t 0 (omega arith))) in
     let q : k + suc i ≡ suc k + i = omega arith in
     rw (m, q) (drop-append-add own (encodeSlots n (suc k) bs) (slotLength * i) ∙ slots-at n (suc k) bs (λ j h. t (suc j) (omega arith)) i (omega arith))
 
@@ -58,10 +59,10 @@ unfolding encodeSlots
 slots-append n k [] ys = rw add-zero
 slots-append n k (x ∷ xs) ys =
     let q : k + suc (length xs) ≡ suc k + length xs = omega arith in
-    rw (q, slots-append n (suc k) xs ys) (sym (append-assoc (encodeSlot x (nextSlot n k)) (encodeSlots n (suc k) xs) (encodeSlots n (suc k + length xs) ys)))
+    rw (q, slots-append n (suc k) xs ys) (sym (append-assoc (encodeSlot x (encodeNext n k)) (encodeSlots n (suc k) xs) (encodeSlots n (suc k + length xs) ys)))
 
 pub slots-more : (n k : ℕ) (bs : List Block) (i : ℕ) → i < length bs
-    → encodeSlots n k (take (suc i) bs) ≡ encodeSlots n k (take i bs) ++ encodeSlot (blockAt bs i) (nextSlot n (k + i))
+    → encodeSlots n k (take (suc i) bs) ≡ encodeSlots n k (take i bs) ++ encodeSlot (blockAt bs i) (encodeNext n (k + i))
 unfolding encodeSlots
 slots-more n k bs i l =
     let e : length (take i bs) ≡ i = length-take-le i bs (omega arith) in
@@ -70,17 +71,17 @@ slots-more n k bs i l =
 -- what slot i + 1 of a table of these blocks has
 pub record SlotHas (bs : List Block) (i : ℕ) : Type 0 where
   pub kind : kindOf (encodeTable bs) (suc i) ≡ blockAt bs i .kind
-  pub next : nextOf (encodeTable bs) (suc i) ≡ nextSlot (length bs) (suc i)
+  pub next : nextOf (encodeTable bs) (suc i) ≡ encodeNext (length bs) (suc i)
   pub start : wireSlot (encodeTable bs) (suc i) startWireOffset ≡ blockAt bs i .start .position
-  pub start-code : wireCode (encodeTable bs) (suc i) startWireOffset ≡ codeOf (blockAt bs i .start)
+  pub start-code : wireCode (encodeTable bs) (suc i) startWireOffset ≡ encodeCode (blockAt bs i .start)
   pub abort : wireSlot (encodeTable bs) (suc i) abortWireOffset ≡ blockAt bs i .abort .position
-  pub abort-code : wireCode (encodeTable bs) (suc i) abortWireOffset ≡ codeOf (blockAt bs i .abort)
+  pub abort-code : wireCode (encodeTable bs) (suc i) abortWireOffset ≡ encodeCode (blockAt bs i .abort)
   pub zero-first : slotByte (encodeTable bs) (suc i) zeroOffset ≡ 0
   pub zero-second : slotByte (encodeTable bs) (suc i) (zeroOffset + 1) ≡ 0
   pub tag : tagOf (encodeTable bs) (suc i) ≡ blockAt bs i .tag
 
 table-at : (bs : List Block) → Tagged bs → (i : ℕ) → i < length bs
-    → drop (slotStart (suc i)) (encodeTable bs) ≡ encodeSlot (blockAt bs i) (nextSlot (length bs) (suc i)) ++ encodeSlots (length bs) (suc (1 + i)) (drop (suc i) bs)
+    → drop (slotStart (suc i)) (encodeTable bs) ≡ encodeSlot (blockAt bs i) (encodeNext (length bs) (suc i)) ++ encodeSlots (length bs) (suc (1 + i)) (drop (suc i) bs)
 unfolding encodeTable
 table-at [] t i l = absurd (omega arith)
 table-at (b ∷ bs) t i l =
@@ -90,11 +91,11 @@ table-at (b ∷ bs) t i l =
     ap (λ (x : ℕ). drop x (encodeTable all)) s
     ∙ sym (drop-drop (slotLength * i) headerLength (encodeTable all))
     ∙ slots-at (length all) 1 all t i l
-    ∙ ap (λ (x : ℕ). encodeSlot (blockAt all i) (nextSlot (length all) x) ++ encodeSlots (length all) (suc (1 + i)) (drop (suc i) all)) q
+    ∙ ap (λ (x : ℕ). encodeSlot (blockAt all i) (encodeNext (length all) x) ++ encodeSlots (length all) (suc (1 + i)) (drop (suc i) all)) q
 
 module _ (bs : List Block) (tagged : Tagged bs) (i : ℕ) (l : i < length bs) where
   abbrev from-slot : List ℕ
-  from-slot = encodeSlot (blockAt bs i) (nextSlot (length bs) (suc i)) ++ encodeSlots (length bs) (suc (1 + i)) (drop (suc i) bs)
+  from-slot = encodeSlot (blockAt bs i) (encodeNext (length bs) (suc i)) ++ encodeSlots (length bs) (suc (1 + i)) (drop (suc i) bs)
 
   byte : (j : ℕ) → slotByte (encodeTable bs) (suc i) j ≡ getD from-slot j 0
   byte j = sym (getD-drop (slotStart (suc i)) (encodeTable bs) j 0) ∙ ap (λ (x : List ℕ). getD x j 0) (table-at bs tagged i l)

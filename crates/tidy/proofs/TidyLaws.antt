@@ -9,7 +9,7 @@ use Rattle.table.proofs.AcceptedLaws.{accepted-blocks}
 use Rattle.table.proofs.Table.{blocks-ok}
 use Rattle.table.proofs.ByBlocks.{find-by-blocks}
 use Rattle.engine.proofs.ByBlocks.{fresh-by-blocks, scan-by-blocks}
-use Rattle.tidy.specs.Encode.{nextSlot, encodeTable, encodedLength}
+use Rattle.tidy.specs.Encode.{encodeNext, encodeTable, encodedLength}
 use Rattle.tidy.specs.Tidy.{tidyOf, TidyAccepted, TidyLength, TidyKeeps, TidySlots, TidyTwice, TidySame, SameTidy, TidyScans, TidyFresh, TidyFinds}
 use Rattle.tidy.proofs.SlotLaws.{slot-has, table-length}
 use Rattle.tidy.proofs.KeptLaws.{block-kept}
@@ -31,11 +31,13 @@ tidy-slots image n by ok i l =
     let kept = block-kept image n by ok i l in
     record {
       kind = has .kind ∙ kept .kind;
-      next = has .next ∙ ap (λ (m : ℕ). nextSlot m (suc i)) blocks;
+      next = has .next ∙ ap (λ (m : ℕ). encodeNext m (suc i)) blocks;
       start = has .start ∙ kept .start;
       start-code = has .start-code ∙ kept .start-code;
       abort = has .abort ∙ kept .abort;
       abort-code = has .abort-code ∙ kept .abort-code;
+      zero-first = has .zero-first;
+      zero-second = has .zero-second;
       tag = has .tag ∙ kept .tag;
     }
 

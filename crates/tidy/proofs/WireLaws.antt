@@ -15,7 +15,7 @@ use Rattle.table.specs.Blocks.{wireOf}
 use Rattle.table.specs.Table.{WireFits}
 use Rattle.table.specs.declared.blocks.Wire.{Wire}
 use Rattle.table.proofs.PositionLaws.{position-zero}
-use Rattle.tidy.specs.Encode.{codeOf}
+use Rattle.tidy.specs.Encode.{encodeCode}
 use Rattle.tidy.proofs.CountUp.{countUp, count-among, count-position}
 
 -- a wire's slot has the wire's position, 0 where it is no slot
@@ -26,7 +26,7 @@ position-kept chain slot code none =
     (λ z. simp z)
 
 -- a code in form is the code of its wire
-pub code-kept : (chain : List ℕ) (slot code : ℕ) → code < 256 → wireOk chain slot code ≡ true → code ≡ codeOf (wireOf chain slot code)
+pub code-kept : (chain : List ℕ) (slot code : ℕ) → code < 256 → wireOk chain slot code ≡ true → code ≡ encodeCode (wireOf chain slot code)
 code-kept chain slot code byte ok =
     by-test (eqb slot 0)
     (λ z. simp z (eqb-true code 0 (simp z at ok)))
@@ -40,21 +40,21 @@ module _ (n : ℕ) (w : Wire) (fits : WireFits n w) where
   some : eqb (w .position) 0 ≡ false → 1 ≤ w .position
   some z = omega (arith, eqb-false (w .position) 0 z)
 
-  low : codeOf w % 128 ≡ w .flag
+  low : encodeCode w % 128 ≡ w .flag
   low = by-test (w .inverted) (λ i. simp i (omega (arith, fits .flag))) (λ i. simp i (omega (arith, fits .flag)))
 
-  pub wire-passes : wireOk (countUp 1 n) (w .position) (codeOf w) ≡ true
+  pub wire-passes : wireOk (countUp 1 n) (w .position) (encodeCode w) ≡ true
   wire-passes =
       by-test (eqb (w .position) 0)
       (λ z. rw (fits .frame (eqb-true (w .position) 0 z)))
-      (λ z. simp (z, count-among 1 n (w .position) (some z) (omega (arith, fits .within)), lt-ltb (codeOf w % 128) 4 (omega (arith, low, fits .flag))))
+      (λ z. simp (z, count-among 1 n (w .position) (some z) (omega (arith, fits .within)), lt-ltb (encodeCode w % 128) 4 (omega (arith, low, fits .flag))))
 
-  pub wire-back : wireOf (countUp 1 n) (w .position) (codeOf w) ≡ w
+  pub wire-back : wireOf (countUp 1 n) (w .position) (encodeCode w) ≡ w
   wire-back =
       by-test (eqb (w .position) 0)
       (λ z. rw (fits .frame (eqb-true (w .position) 0 z)))
       (λ z. let position : positionOf (w .position) (countUp 1 n) ≡ w .position = count-position 1 n (w .position) (some z) (omega (arith, fits .within)) in
-      let flag : codeOf w % 4 ≡ w .flag = omega (arith, low, fits .flag) in
-      let inverted : leb 128 (codeOf w) ≡ w .inverted =
+      let flag : encodeCode w % 4 ≡ w .flag = omega (arith, low, fits .flag) in
+      let inverted : leb 128 (encodeCode w) ≡ w .inverted =
       by-test (w .inverted) (λ i. simp i (le-leb 128 (128 + w .flag) (omega arith))) (λ i. simp i (lt-leb 128 (w .flag) (omega (arith, fits .flag)))) in
       simp z (λ j. record { position = position j; flag = flag j; inverted = inverted j }))

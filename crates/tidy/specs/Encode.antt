@@ -14,25 +14,25 @@ use Rattle.table.specs.declared.blocks.Wire.{Wire}
 use Rattle.table.specs.declared.check.Checked.the-variants.{Blocks}
 
 -- "the code has bits 0-1 = flag ... and bit 7 = inverted, others zero"; of a wire from the frame it is 0
-abbrev pub codeOf : Wire → ℕ
-codeOf w = cond (w .inverted) (128 + w .flag) (w .flag)
+abbrev pub encodeCode : Wire → ℕ
+encodeCode w = cond (w .inverted) (128 + w .flag) (w .flag)
 
 -- the next slot of slot k, where the blocks stand in slots 1 to n: 0 after the last
-abbrev pub nextSlot : ℕ → ℕ → ℕ
-nextSlot n k = cond (ltb k n) (suc k) 0
+abbrev pub encodeNext : ℕ → ℕ → ℕ
+encodeNext n k = cond (ltb k n) (suc k) 0
 
 -- "byte 0 kind; 1 next slot; 2 start wire slot; 3 start wire code; 4 abort wire slot; 5 abort wire code; 6-7 zero", and "8-15 tag" after them.
 -- "wires renumbered": the slot of a block is its position, and so is that of a wire
-abbrev pub encodeHead : Block → ℕ → List ℕ
-encodeHead b next = b .kind ∷ next ∷ b .start .position ∷ codeOf (b .start) ∷ b .abort .position ∷ codeOf (b .abort) ∷ 0 ∷ 0 ∷ []
+abbrev pub encodeFields : Block → ℕ → List ℕ
+encodeFields b next = b .kind ∷ next ∷ b .start .position ∷ encodeCode (b .start) ∷ b .abort .position ∷ encodeCode (b .abort) ∷ 0 ∷ 0 ∷ []
 
 unfoldable pub encodeSlot : Block → ℕ → List ℕ
-encodeSlot b next = encodeHead b next ++ b .tag
+encodeSlot b next = encodeFields b next ++ b .tag
 
 -- the slots of some blocks, the first of them in slot k of n
 unfoldable pub encodeSlots : ℕ → ℕ → List Block → List ℕ
 encodeSlots n k [] = []
-encodeSlots n k (b ∷ bs) = encodeSlot b (nextSlot n k) ++ encodeSlots n (suc k) bs
+encodeSlots n k (b ∷ bs) = encodeSlot b (encodeNext n k) ++ encodeSlots n (suc k) bs
 
 -- "version 1; slot count N, 1 to 64; head slot, 0 to N; zero": "head 1, N the block count"
 abbrev pub encodeHeader : ℕ → List ℕ

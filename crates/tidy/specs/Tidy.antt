@@ -1,11 +1,11 @@
 -- Document 02, 5/14: "Tidy a table." The statements at the end are proved in proofs/TidyLaws.antt.
-use Prim.Native.Nat.{ℕ, suc, _<_}
+use Prim.Native.Nat.{ℕ, suc, _+_, _<_}
 use mathlib.Core.Path.{_≡_}
 use mathlib.Core.List.{List}
 use lib.Dec.{eqb}
 use lib.ListN.{length, getD}
 use Rattle.words.specs.Word.{Bytes}
-use Rattle.image.specs.Image.{kindOf, nextOf, wireSlot, wireCode, startWireOffset, abortWireOffset, tagOf}
+use Rattle.image.specs.Image.{slotByte, kindOf, nextOf, wireSlot, wireCode, startWireOffset, abortWireOffset, zeroOffset, tagOf}
 use Rattle.table.specs.Place.{require}
 use Rattle.table.specs.Chain.{chainOf, positionOf}
 use Rattle.table.specs.Check.{checkOf}
@@ -19,7 +19,7 @@ use Rattle.table.specs.declared.check.Checked.the-variants.{Blocks, Refused}
 use Rattle.engine.specs.Told.{Told}
 use Rattle.engine.specs.Fresh.{freshOf}
 use Rattle.engine.specs.Scan.{scanOf}
-use Rattle.tidy.specs.Encode.{nextSlot, encodeTable, encodedLength}
+use Rattle.tidy.specs.Encode.{encodeNext, encodeTable, encodedLength}
 
 -- "Write the table anew": the image of its own blocks
 abbrev pub tidyOf : List ℕ → List ℕ
@@ -44,7 +44,7 @@ tidyAfter (Refused number place) image out = record { answer = Refused number pl
 unfoldable pub tidyInto : List ℕ → List ℕ → TidyResult
 tidyInto image out = tidyAfter (checkOf image) image out
 
--- Theorems about every accepted table; n is the number of its blocks.
+-- Theorems about every accepted table (`SameTidy` about any two images); n is the number of its blocks.
 -- tidy-accepted and tidy-length: the tidy image is accepted, with as many blocks; it has 4 + 16 × max(1, n) bytes
 abbrev pub TidyAccepted : Type 0
 TidyAccepted = (image : List ℕ) (n : ℕ) → checkOf image ≡ Blocks n → checkOf (tidyOf image) ≡ Blocks n
@@ -56,18 +56,20 @@ TidyLength = (image : List ℕ) (n : ℕ) → checkOf image ≡ Blocks n → len
 abbrev pub TidyKeeps : Type 0
 TidyKeeps = (image : List ℕ) (n : ℕ) → checkOf image ≡ Blocks n → blocksOf (tidyOf image) ≡ blocksOf image
 
--- The same byte by byte. Slot i + 1 beside the slot that the chain has there: kind, tag and codes are kept, a wire names the position of the block that
--- it named by its slot.
+-- The same of the slots, byte by byte. Slot i + 1 beside the slot that the chain has at index i: kind, tag and codes are kept, and a wire names the position
+-- of the block that it named by its slot.
 pub record SlotKept (image : List ℕ) (n i slot : ℕ) : Type 0 where
   pub kind : kindOf (tidyOf image) (suc i) ≡ kindOf image slot
-  pub next : nextOf (tidyOf image) (suc i) ≡ nextSlot n (suc i)
+  pub next : nextOf (tidyOf image) (suc i) ≡ encodeNext n (suc i)
   pub start : wireSlot (tidyOf image) (suc i) startWireOffset ≡ positionOf (wireSlot image slot startWireOffset) (chainOf image)
   pub start-code : wireCode (tidyOf image) (suc i) startWireOffset ≡ wireCode image slot startWireOffset
   pub abort : wireSlot (tidyOf image) (suc i) abortWireOffset ≡ positionOf (wireSlot image slot abortWireOffset) (chainOf image)
   pub abort-code : wireCode (tidyOf image) (suc i) abortWireOffset ≡ wireCode image slot abortWireOffset
+  pub zero-first : slotByte (tidyOf image) (suc i) zeroOffset ≡ 0
+  pub zero-second : slotByte (tidyOf image) (suc i) (zeroOffset + 1) ≡ 0
   pub tag : tagOf (tidyOf image) (suc i) ≡ tagOf image slot
 
--- tidy-slots
+-- tidy-slots, of an image of bytes: a code is judged modulo 128
 abbrev pub TidySlots : Type 0
 TidySlots = (image : List ℕ) (n : ℕ) → Bytes image → checkOf image ≡ Blocks n → (i : ℕ) → i < n → SlotKept image n i (getD (chainOf image) i 0)
 

@@ -16,7 +16,7 @@ ghost use Rattle.image.specs.Image.{headerLength, mostSlots, imageLength, tagLe
 ghost use Rattle.table.specs.Check.{Accepted};
 ghost use Rattle.table.specs.Blocks.{blocksOf, blockAt};
 ghost use Rattle.layout.specs.Buffer.{put};
-ghost use Rattle.tidy.specs.Encode.{nextSlot, encodeHead, encodeSlot, encodeSlots, encodeHeader, encodeTable, encodedLength};
+ghost use Rattle.tidy.specs.Encode.{encodeNext, encodeFields, encodeSlot, encodeSlots, encodeHeader, encodeTable, encodedLength};
 
 // The length of a table of n blocks without spares.
 pub fn encoded_length(n: usize) -> usize
@@ -30,9 +30,9 @@ pub fn encoded_length(n: usize) -> usize
 }
 
 // The next slot of slot k, of a table of n blocks.
-fn next_slot(n: usize, k: usize) -> u8
+fn encode_next(n: usize, k: usize) -> u8
     requires { ⌜ n ≤ mostSlots ⌝ }
-    ensures { λ r. ⌜ r ≡ nextSlot n k ⌝ }
+    ensures { λ r. ⌜ r ≡ encodeNext n k ⌝ }
 {
     if k < n {
         return (k + 1) as u8;
@@ -41,7 +41,7 @@ fn next_slot(n: usize, k: usize) -> u8
 }
 
 // What stands before the tag in the slot of block i. The slot of a wire becomes the position of the block there, which for slot 0 is 0; its code is kept.
-fn encode_head(
+fn encode_fields(
     image: &[u8],
     slots: &[u8; MOST_SLOTS],
     positions: &[u8; MOST_SLOTS + 1],
@@ -50,11 +50,11 @@ fn encode_head(
 ) -> [u8; TAG_OFFSET]
     requires { ⌜ Accepted (now image) count (now slots) (now positions) ⌝ }
     requires { ⌜ i < count ⌝ }
-    ensures { λ b. ⌜ b ≡ encodeHead (blockAt (blocksOf (now (image .entry))) i) (nextSlot count (suc i)) ⌝ }
+    ensures { λ b. ⌜ b ≡ encodeFields (blockAt (blocksOf (now (image .entry))) i) (encodeNext count (suc i)) ⌝ }
 {
     let slot = slots[i];
     let kind = slot_byte(image, slot, KIND_OFFSET);
-    let next = next_slot(count, i + 1);
+    let next = encode_next(count, i + 1);
     let start = slot_byte(image, slot, START_WIRE_OFFSET);
     let start_code = slot_byte(image, slot, START_WIRE_OFFSET + 1);
     let start_position = positions[start as usize];
@@ -73,7 +73,7 @@ fn encode_head(
     ]
 }
 
-// The tag of a slot is copied to the place `at`, as one number.
+// The tag of a slot is copied to the place `at`, as one number: that takes fewer instructions than byte by byte.
 fn copy_tag(out: &mut [u8], at: usize, image: &[u8], slot: u8)
     requires { ⌜ HasSlot (now image) slot ⌝ }
     requires { ⌜ at + tagLength ≤ length (now out) ⌝ }
@@ -94,10 +94,10 @@ fn encode_slot(
 )
     requires { ⌜ Accepted (now image) count (now slots) (now positions) ⌝ }
     requires { ⌜ (i < count) × (imageLength count ≤ length (now out)) ⌝ }
-    ensures { λ _. ⌜ now (out .exit) ≡ put (imageLength i) (encodeSlot (blockAt (blocksOf (now (image .entry))) i) (nextSlot count (suc i))) (now (out .entry)) ⌝ }
+    ensures { λ _. ⌜ now (out .exit) ≡ put (imageLength i) (encodeSlot (blockAt (blocksOf (now (image .entry))) i) (encodeNext count (suc i))) (now (out .entry)) ⌝ }
 {
     let at = HEADER_LENGTH + SLOT_LENGTH * i;
-    let head = encode_head(image, slots, positions, count, i);
+    let head = encode_fields(image, slots, positions, count, i);
     bytes::copy(&head, &mut out[at..]);
     copy_tag(out, at + TAG_OFFSET, image, slots[i]);
 }
@@ -121,7 +121,7 @@ fn encode_slots(
     }
 }
 
-// The header of a table of n blocks, not 0.
+// The header of a table of n blocks, where n is not 0.
 fn encode_header(out: &mut [u8], n: usize)
     requires { ⌜ (n ≤ mostSlots) × (headerLength ≤ length (now out)) ⌝ }
     ensures { λ _. ⌜ now (out .exit) ≡ put 0 (encodeHeader n) (now (out .entry)) ⌝ }

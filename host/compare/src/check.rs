@@ -45,7 +45,7 @@ pub fn find(image: &[u8], tag: &[u8]) -> Result<Answer, String> {
 
 /// A call that writes one buffer, by both implementations: the answer, and the buffer as both left
 /// it. A refused one must leave it as it was.
-pub(crate) fn lent(
+pub(crate) fn write_by_both(
     word: &str,
     image: &[u8],
     given: &[u8],
@@ -69,7 +69,7 @@ pub(crate) fn lent(
 
 /// Tidies a table by both implementations: the answer, and the lent image as both left it.
 pub fn tidy(image: &[u8], out: &[u8]) -> Result<(Answer, Vec<u8>), String> {
-    lent("tidy", image, out, ffi::tidy, rules::tidy)
+    write_by_both("tidy", image, out, ffi::tidy, rules::tidy)
 }
 
 /// Runs a call on the table, given in words: what it answers and leaves, as text.

@@ -1,6 +1,6 @@
 //! One fresh state or scan by each implementation on the same bytes: answers and all buffers.
 
-use crate::check::{self, differ, lent};
+use crate::check::{self, differ, write_by_both};
 use crate::scans::Buffers;
 use crate::text::{self, slice, Answer};
 use lane::ffi;
@@ -67,7 +67,7 @@ pub fn scan(given: &Buffers) -> Result<(Answer, Buffers), String> {
 
 /// Makes a state fresh by both implementations: the answer, and the state as both left it.
 pub fn fresh(image: &[u8], state: &[u8]) -> Result<(Answer, Vec<u8>), String> {
-    lent("fresh", image, state, ffi::fresh, rules::fresh)
+    write_by_both("fresh", image, state, ffi::fresh, rules::fresh)
 }
 
 /// Runs a call given in words: what it answers and leaves, as text.

@@ -1,6 +1,6 @@
-//! Every refusal of the table checks, the lookup and tidying, with its place and its order among the others:
-//! the cases of `data/table_cases.txt` through the engine and the reference, and the places that the binding
-//! names in them and in those of `data/tidy_cases.txt`.
+//! Every refusal of the table checks and the lookup, with its place and its order among the others: the cases
+//! of `data/table_cases.txt` through the engine and the reference, and the places that the binding names in them
+//! and in those of `data/tidy_cases.txt`.
 
 use compare::tally::{Tally, LOOKUP, SLOT, TABLE, TIDY};
 use compare::text::{parse_answer, parse_slice};

@@ -14,7 +14,7 @@ use compare::seen::Seen;
 use compare::tables::{alike, no_tag, tag, Fault, Size, Table};
 use compare::tally::{Tally, LOOKUP, POSITION, SCAN, SLOT, TABLE, TIDY};
 use compare::text::{answer, slice, Answer};
-use lane::{Refusal, RECORD_BYTES};
+use lane::{Engine, Refusal, RECORD_BYTES};
 use std::collections::HashSet;
 use std::iter;
 
@@ -70,7 +70,7 @@ fn expect_tidy(case: u64, rng: &mut Rng, table: &Table, tidy: &[u8]) {
     );
 }
 
-/// The blocks in slots 1, 2, 3 and on, in a lent image that held anything; and the same once more.
+/// The blocks in slots 1, 2, 3 and on, in a lent image that held anything; the same once more, and by the binding.
 #[test]
 fn valid_tables() {
     let (seed, cases) = settings("valid tables, tidied", 301, 60_000);
@@ -81,6 +81,8 @@ fn valid_tables() {
         let tidy = Blocks::of(&table).tidy();
         expect_tidy(case, &mut rng, &table, &tidy.image);
         expect_tidy(case, &mut rng, &tidy, &tidy.image);
+        let engine = Engine::new(&table.image).expect("an accepted table");
+        assert_eq!(engine.tidy().image(), tidy.image, "case {case}");
         met.add(&table);
     }
     print!("{met}");

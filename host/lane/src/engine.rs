@@ -118,7 +118,8 @@ impl Engine {
         let mut image = vec![0; HEADER_BYTES + SLOT_BYTES * self.blocks.max(1)];
         let written = ffi::tidy(&self.image, &mut image);
         debug_assert!(written.is_ok(), "an accepted table has a tidy: {written:?}");
-        Engine { image, ..*self }
+        let blocks = self.blocks;
+        Engine { image, blocks }
     }
 
     /// The slot of the block at a position of the chain, by its links.

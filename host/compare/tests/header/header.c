@@ -3,6 +3,7 @@
  *   answer NUMBER PLACE                          the functions that take an answer apart
  *   chain HEX                                    the slots at positions 0 to 65 of an image
  *   tag NAME                                     whether the name fits, and its tag
+ *   tidy BLOCKS                                  the length of the tidy table of so many blocks
  *   slot|record|entry|report|event HEX           the fields of a part, and the bytes put back
  */
 
@@ -81,6 +82,14 @@ static void show_tag(const char *rest)
     print_put(LANE_TAG_BYTES, LANE_TAG_BYTES);
 }
 
+static void show_tidy(const char *rest)
+{
+    uint32_t blocks = 0;
+    if (sscanf(rest, "%" SCNu32, &blocks) != 1)
+        fail("tidy BLOCKS");
+    printf("%lu\n", (unsigned long)lane_tidy_bytes(blocks));
+}
+
 static void show_slot(const char *hex)
 {
     parse(hex, from + LANE_HEADER_BYTES + LANE_SLOT_BYTES);
@@ -147,8 +156,8 @@ int main(void)
         const char *name;
         void (*show)(const char *rest);
     } shows[] = {{"answer", show_answer}, {"chain", show_chain},   {"tag", show_tag},
-                 {"slot", show_slot},     {"record", show_record}, {"entry", show_entry},
-                 {"report", show_report}, {"event", show_event}};
+                 {"tidy", show_tidy},     {"slot", show_slot},     {"record", show_record},
+                 {"entry", show_entry},   {"report", show_report}, {"event", show_event}};
     static char line[2 * LONGEST + 16];
     print_constants();
     printf("\n");

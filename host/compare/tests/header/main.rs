@@ -11,7 +11,7 @@ mod parts;
 use compare::rng::{settings, Rng};
 use compare::tables::{Size, Table};
 use compare::text::slice;
-use lane::{Place, Refusal, Tag, TAG_BYTES};
+use lane::{Place, Refusal, Tag, HEADER_BYTES, MAX_BLOCKS, SLOT_BYTES, TAG_BYTES};
 use std::collections::BTreeMap;
 use std::env;
 use std::fs::{self, File};
@@ -180,6 +180,16 @@ fn tags_of_names() {
         )
     });
     expect("tags", cases.into());
+}
+
+/// The length of the tidy table of any number of blocks.
+#[test]
+fn tidy_lengths() {
+    let cases = (0..=MAX_BLOCKS).map(|blocks| {
+        let length = HEADER_BYTES + SLOT_BYTES * blocks.max(1);
+        (format!("tidy {blocks}"), length.to_string())
+    });
+    expect("tidy", cases.collect());
 }
 
 /// The archive that the binding links.

@@ -8,7 +8,7 @@ use Rattle.table.specs.Blocks.{Block, blocksOf, blockAt}
 use Rattle.table.proofs.HeldLaws.{held-has}
 use Rattle.table.proofs.TagLaws.{tag-length}
 use Rattle.layout.proofs.BufferLaws.{put-front}
-use Rattle.tidy.specs.Encode.{nextSlot, encodeHead}
+use Rattle.tidy.specs.Encode.{encodeNext, encodeFields}
 use Rattle.tidy.proofs.KeptLaws.{held-kept}
 use Rattle.tidy.proofs.EncodeLaws.{slot-put}
 use borrow.Author.Needs.{needs}
@@ -21,8 +21,8 @@ mul-at c = search needs
 add-at : tie.Need-add-at
 add-at c = search needs
 
-encode-head-requires : tie.Need-encode-head-requires
-encode-head-requires c κs = search needs
+encode-fields-requires : tie.Need-encode-fields-requires
+encode-fields-requires c κs = search needs
 
 slice-aggregate-copy : tie.Need-slice-aggregate-copy
 slice-aggregate-copy c = search needs
@@ -56,17 +56,20 @@ same-length c = search needs
 
 returns : tie.Need-returns
 returns c =
-    let start = c .before .before .before .before .before .before .before .before .before .before .before .before .before in
+    let tagged = c .before .before in
+    let copied = tagged .before .before .before .before .before in
+    let made = copied .before .before .before in
+    let known = made .before in
+    let start = known .before .before in
     let a = start .args in
     let image = a .image .now in
     let b : Block = blockAt (blocksOf image) (a .i) in
-    let next : ℕ = nextSlot (a .count) (suc (a .i)) in
+    let next : ℕ = encodeNext (a .count) (suc (a .i)) in
     let slot : ℕ = getD (a .slots .now) (a .i) 0 in
     let has = held-has image (a .count) (a .slots .now) (a .positions .now) (start .pre .0) (a .i) (start .pre .1 .0) in
-    let kept = held-kept image (a .count) (a .slots .now) (a .positions .now) (start .pre .0) (a .i) (start .pre .1 .0) (λ j. c .before .before .before .before .before .before .before .before .before .before .before .shared-slice-known .given j .fits) in
-    let e = c .before .before .before .before .before .before .before .before .before .before .encode-head .ensures in
-    let copied = put-front (imageLength (a .i)) tagOffset (a .out .now) (encodeHead b next) (c .before .before .before .before .before .before .before .copy .last .1 .0) refl (rw e at (c .before .before .before .before .before .before .before .copy .ensures .1)) in
-    slot-put b next (imageLength (a .i)) (tagOf image slot) (a .out .now) _ _ (tag-length image slot has) (kept .tag) (omega (arith, start .pre .1 .0, start .pre .1 .1)) copied (c .before .before .copy-tag .ensures)
+    let kept = held-kept image (a .count) (a .slots .now) (a .positions .now) (start .pre .0) (a .i) (start .pre .1 .0) (λ j. known .shared-slice-known .given j .fits) in
+    let fields = put-front (imageLength (a .i)) tagOffset (a .out .now) (encodeFields b next) (copied .copy .last .1 .0) refl (rw (made .encode-fields .ensures) at (copied .copy .ensures .1)) in
+    slot-put b next (imageLength (a .i)) (tagOf image slot) (a .out .now) _ _ (tag-length image slot has) (kept .tag) (omega (arith, start .pre .1 .0, start .pre .1 .1)) fields (tagged .copy-tag .ensures)
 
 pub encode-slot-spec : {M : Type 1} → statement M
 encode-slot-spec =
@@ -74,7 +77,7 @@ encode-slot-spec =
     (tie.spec
     mul-at
     add-at
-    encode-head-requires
+    encode-fields-requires
     slice-aggregate-copy
     sub-copy
     part-copy-start

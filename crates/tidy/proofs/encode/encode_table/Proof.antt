@@ -7,36 +7,44 @@ use Rattle.tidy.proofs.encode.encode_table.Tie as tie
 
 encode-empty-requires : tie.Need-encode-empty-requires
 encode-empty-requires c κs =
-    let start = c .before .before .before .before in
+    let none = c .before in
+    let start = none .before .before .before in
     let a = start .args in
-    empty-length (a .image .now) (a .count) (start .pre .0 .answer) _ (c .before .if1 .taken) (start .pre .1)
+    empty-length (a .image .now) (a .count) (start .pre .0 .answer) _ (none .if1 .taken) (start .pre .1)
 
 same-length : tie.Need-same-length
 same-length c = search needs
 
 returns : tie.Need-returns
 returns c =
-    let start = c .before .before .before .before .before .before .before in
+    let written = c .before .before in
+    let none = written .before .before in
+    let start = none .before .before .before in
     let a = start .args in
-    empty-table (a .image .now) (a .count) (start .pre .0 .answer) _ (c .before .before .before .before .if1 .taken) (c .before .before .encode-empty .ensures)
+    empty-table (a .image .now) (a .count) (start .pre .0 .answer) _ (none .if1 .taken) (written .encode-empty .ensures)
 
 encode-header-requires : tie.Need-encode-header-requires
 encode-header-requires c κs = search needs
 
 encode-slots-requires : tie.Need-encode-slots-requires
 encode-slots-requires c κs =
-    let start = c .before .before .before .before .before .before .before .before in
+    let headed = c .before .before .before in
+    let some = headed .before .before in
+    let start = some .before .before .before in
     let a = start .args in
-    (start .pre .0, omega (arith, c .before .before .before .encode-header .kept .0, some-length (a .image .now) (a .count) (start .pre .0 .answer) _ (c .before .before .before .before .before .if1 .left) (start .pre .1)))
+    (start .pre .0, omega (arith, headed .encode-header .kept .0, some-length (a .image .now) (a .count) (start .pre .0 .answer) _ (some .if1 .left) (start .pre .1)))
 
 same-length-2 : tie.Need-same-length-2
 same-length-2 c = search needs
 
 returns-2 : tie.Need-returns-2
 returns-2 c =
-    let start = c .before .before .before .before .before .before .before .before .before .before .before in
+    let written = c .before .before in
+    let headed = written .before .before .before .before in
+    let some = headed .before .before in
+    let start = some .before .before .before in
     let a = start .args in
-    some-table (a .image .now) (a .count) (start .pre .0 .answer) (a .out .now) _ _ (c .before .before .before .before .before .before .before .before .if1 .left) (start .pre .1) (c .before .before .before .before .before .before .encode-header .ensures) (c .before .before .encode-slots .ensures)
+    some-table (a .image .now) (a .count) (start .pre .0 .answer) (a .out .now) _ _ (some .if1 .left) (start .pre .1) (headed .encode-header .ensures) (written .encode-slots .ensures)
 
 pub encode-table-spec : {M : Type 1} → statement M
 encode-table-spec =

@@ -17,9 +17,9 @@ enum-told c = search needs
 
 returns : tie.Need-returns
 returns c =
-    let start = c .before .before .before .before .before .before .before in
-    let a = start .args in
-    tidy-refused (a .image .now) (a .out .now) _ (c .before .before .check-table .ensures .0) _ _ (c .enum-told .given .1)
+    let checked = c .before .before in
+    let a = checked .before .before .before .before .before .args in
+    tidy-refused (a .image .now) (a .out .now) _ (checked .check-table .ensures .0) _ _ (c .enum-told .given .1)
 
 encoded-length-requires : tie.Need-encoded-length-requires
 encoded-length-requires c κs =
@@ -29,26 +29,32 @@ encoded-length-requires c κs =
 
 returns-2 : tie.Need-returns-2
 returns-2 c =
-    let accepted = c .before .before .before in
+    let sized = c .before in
+    let accepted = sized .before .before in
     let checked = accepted .before .before in
     let a = checked .before .before .before .before .before .args in
-    tidy-60 (a .image .now) (a .out .now) _ (checked .check-table .ensures .0) _ (accepted .answer .given .1) _ (c .before .encoded-length .ensures) (c .if1 .taken)
+    tidy-60 (a .image .now) (a .out .now) _ (checked .check-table .ensures .0) _ (accepted .answer .given .1) _ (sized .encoded-length .ensures) (c .if1 .taken)
 
 encode-table-requires : tie.Need-encode-table-requires
 encode-table-requires c κs =
-    let accepted = c .before .before .before .before .before .before in
+    let fits = c .before .before .before in
+    let sized = fits .before in
+    let accepted = sized .before .before in
     let checked = accepted .before .before in
-    (checked .check-table .ensures .1 _ (accepted .answer .given .1), c .before .before .before .if1 .left ∙ c .before .before .before .before .encoded-length .ensures)
+    (checked .check-table .ensures .1 _ (accepted .answer .given .1), fits .if1 .left ∙ sized .encoded-length .ensures)
 
 same-length : tie.Need-same-length
 same-length c = search needs
 
 returns-3 : tie.Need-returns-3
 returns-3 c =
-    let accepted = c .before .before .before .before .before .before .before .before .before in
+    let written = c .before .before in
+    let fits = written .before .before .before .before in
+    let sized = fits .before in
+    let accepted = sized .before .before in
     let checked = accepted .before .before in
     let a = checked .before .before .before .before .before .args in
-    tidy-done (a .image .now) (a .out .now) _ (checked .check-table .ensures .0) _ (accepted .answer .given .1) _ (c .before .before .before .before .before .before .before .encoded-length .ensures) (c .before .before .before .before .before .before .if1 .left) _ (c .before .before .encode-table .ensures)
+    tidy-done (a .image .now) (a .out .now) _ (checked .check-table .ensures .0) _ (accepted .answer .given .1) _ (sized .encoded-length .ensures) (fits .if1 .left) _ (written .encode-table .ensures)
 
 pub tidy-spec : {M : Type 1} → statement M
 tidy-spec =

@@ -1,4 +1,4 @@
--- `encode::encode_head` meets its contract: what the slot has of block i, its wires renumbered.
+-- `encode::encode_fields` meets its contract: what the slot has of block i, its wires renumbered.
 use Prim.Native.Nat.{ℕ, _≤_}
 use mathlib.Core.Path.{refl, ap, sym, _∙_}
 use mathlib.Core.List.{[], _∷_}
@@ -8,11 +8,11 @@ use native.Mathlib.Numerals.{add-one}
 use lib.ListN.{getD}
 use Rattle.image.specs.Image.{mostSlots, wireSlot, startWireOffset, abortWireOffset, HasSlot}
 use Rattle.table.proofs.HeldLaws.{IsWire, held-has, held-source}
-use Rattle.tidy.specs.Encode.{nextSlot}
+use Rattle.tidy.specs.Encode.{encodeNext}
 use Rattle.tidy.proofs.KeptLaws.{held-kept}
 use borrow.Author.Needs.{needs}
-use Rattle.tidy.proofs.encode.encode_head.Statement.{statement}
-use Rattle.tidy.proofs.encode.encode_head.Tie as tie
+use Rattle.tidy.proofs.encode.encode_fields.Statement.{statement}
+use Rattle.tidy.proofs.encode.encode_fields.Tie as tie
 
 -- the slot of block i, its bytes, and the slots that its wires name
 abbrev slot : tie.Start → ℕ
@@ -30,11 +30,11 @@ element-copy-out-slot c = search needs
 slot-byte-requires : tie.Need-slot-byte-requires
 slot-byte-requires c κs = (has (c .before .before), omega arith)
 
-add-next-slot : tie.Need-add-next-slot
-add-next-slot c = search needs
+add-encode-next : tie.Need-add-encode-next
+add-encode-next c = search needs
 
-next-slot-requires : tie.Need-next-slot-requires
-next-slot-requires c κs = search needs
+encode-next-requires : tie.Need-encode-next-requires
+encode-next-requires c κs = search needs
 
 slot-byte-requires-2 : tie.Need-slot-byte-requires-2
 slot-byte-requires-2 c κs = (has (c .before .before .before .before), omega arith)
@@ -74,27 +74,27 @@ returns : tie.Need-returns
 returns c =
     let abort-byte = c .before .before in
     let start-byte = abort-byte .before .before .before in
-    let next-slot = start-byte .before in
-    let s = next-slot .before .before .before .before in
+    let encode-next = start-byte .before in
+    let s = encode-next .before .before .before .before in
     let a = s .args in
     let places = s .pre .0 .chain .places in
-    let kept = held-kept (a .image .now) (a .count) (a .slots .now) (a .positions .now) (s .pre .0) (a .i) (s .pre .1) (λ j. next-slot .before .before .before .shared-slice-known .given j .fits) in
-    let kind = next-slot .before .slot-byte .ensures ∙ sym (kept .kind) in
-    let next = next-slot .next-slot .ensures ∙ ap (nextSlot (a .count)) (add-one (a .i)) in
+    let kept = held-kept (a .image .now) (a .count) (a .slots .now) (a .positions .now) (s .pre .0) (a .i) (s .pre .1) (λ j. encode-next .before .before .before .shared-slice-known .given j .fits) in
+    let kind = encode-next .before .slot-byte .ensures ∙ sym (kept .kind) in
+    let next = encode-next .encode-next .ensures ∙ ap (encodeNext (a .count)) (add-one (a .i)) in
     let start = ap (λ (k : ℕ). getD (a .positions .now) k 0) (start-byte .slot-byte2 .ensures) ∙ places .placed _ ∙ sym (kept .start) in
     let start-code = abort-byte .before .before .slot-byte3 .ensures ∙ sym (kept .start-code) in
     let abort = ap (λ (k : ℕ). getD (a .positions .now) k 0) (abort-byte .slot-byte4 .ensures) ∙ places .placed _ ∙ sym (kept .abort) in
     let abort-code = c .before .slot-byte5 .ensures ∙ sym (kept .abort-code) in
     λ j. kind j ∷ next j ∷ start j ∷ start-code j ∷ abort j ∷ abort-code j ∷ 0 ∷ 0 ∷ []
 
-pub encode-head-spec : {M : Type 1} → statement M
-encode-head-spec =
+pub encode-fields-spec : {M : Type 1} → statement M
+encode-fields-spec =
     tie.close
     (tie.spec
     element-copy-out-slot
     slot-byte-requires
-    add-next-slot
-    next-slot-requires
+    add-encode-next
+    encode-next-requires
     slot-byte-requires-2
     add-slot-byte
     slot-byte-requires-3

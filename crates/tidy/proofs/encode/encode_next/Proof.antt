@@ -1,9 +1,9 @@
--- `encode::next_slot` meets its contract, by its test.
+-- `encode::encode_next` meets its contract, by its test.
 use native.Mathlib.Numerals.{add-one}
 use borrow.Author.Tests.{lt-ltb, le-ltb}
 use borrow.Author.Needs.{needs}
-use Rattle.tidy.proofs.encode.next_slot.Statement.{statement}
-use Rattle.tidy.proofs.encode.next_slot.Tie as tie
+use Rattle.tidy.proofs.encode.encode_next.Statement.{statement}
+use Rattle.tidy.proofs.encode.encode_next.Tie as tie
 
 add-result : tie.Need-add-result
 add-result c = search needs
@@ -17,5 +17,5 @@ returns c = simp (lt-ltb _ _ (c .if1 .taken), add-one)
 returns-2 : tie.Need-returns-2
 returns-2 c = simp (le-ltb _ _ (c .if1 .left))
 
-pub next-slot-spec : {M : Type 1} → statement M
-next-slot-spec = tie.close (tie.spec add-result cast-result returns returns-2)
+pub encode-next-spec : {M : Type 1} → statement M
+encode-next-spec = tie.close (tie.spec add-result cast-result returns returns-2)
