@@ -4,3 +4,4 @@ pub mod Projection
 pub mod ScanLaws
 pub mod RunInvariant
 pub mod RunExamples
+pub mod ByBlocks

@@ -9,8 +9,9 @@ use Rattle.table.proofs.AcceptedLaws.{accepted-blocks}
 use Rattle.table.proofs.Table.{blocks-ok}
 use Rattle.table.proofs.ByBlocks.{find-by-blocks}
 use Rattle.engine.proofs.ByBlocks.{fresh-by-blocks, scan-by-blocks}
+use Rattle.run.proofs.ByBlocks.{state-by-blocks, journal-by-blocks}
 use Rattle.tidy.specs.Encode.{encodeNext, encodeTable, encodedLength}
-use Rattle.tidy.specs.Tidy.{tidyOf, TidyAccepted, TidyLength, TidyKeeps, TidySlots, TidyTwice, TidySame, SameTidy, TidyScans, TidyFresh, TidyFinds}
+use Rattle.tidy.specs.Tidy.{tidyOf, TidyAccepted, TidyLength, TidyKeeps, TidySlots, TidyTwice, TidySame, SameTidy, TidyScans, TidyLists, TidyFresh, TidyFinds}
 use Rattle.tidy.proofs.SlotLaws.{slot-has, table-length}
 use Rattle.tidy.proofs.KeptLaws.{block-kept}
 use Rattle.tidy.proofs.EncodedTable.{ok-tagged, encoded-accepted, encoded-blocks}
@@ -52,6 +53,12 @@ same-tidy first second e = ap encodeTable e
 
 pub tidy-scans : TidyScans
 tidy-scans image n ok = scan-by-blocks (tidyOf image) image n n (tidy-accepted image n ok) ok (tidy-keeps image n ok)
+
+pub tidy-lists : TidyLists
+tidy-lists image n ok start scans =
+    let accepted = tidy-accepted image n ok in
+    let keeps = tidy-keeps image n ok in
+    (state-by-blocks (tidyOf image) image n n accepted ok keeps start scans, journal-by-blocks (tidyOf image) image n n accepted ok keeps start scans)
 
 pub tidy-fresh : TidyFresh
 tidy-fresh image n ok = fresh-by-blocks (tidyOf image) image n n (tidy-accepted image n ok) ok (tidy-keeps image n ok)

@@ -19,6 +19,7 @@ use Rattle.table.specs.declared.check.Checked.the-variants.{Blocks, Refused}
 use Rattle.engine.specs.Told.{Told}
 use Rattle.engine.specs.Fresh.{freshOf}
 use Rattle.engine.specs.Scan.{scanOf}
+use Rattle.run.specs.Scans.{Scans, stateFrom, journalFrom}
 use Rattle.tidy.specs.Encode.{encodeNext, encodeTable, encodedLength}
 
 -- "Write the table anew": the image of its own blocks
@@ -91,6 +92,13 @@ abbrev pub TidyScans : Type 0
 TidyScans =
     (image : List ℕ) (n : ℕ) → checkOf image ≡ Blocks n
     → (state : List ℕ) (told : Told) (report journal : List ℕ) → scanOf (tidyOf image) state told report journal ≡ scanOf image state told report journal
+
+-- tidy-lists: so do lists of scans, from every state: the state after them, and their journal
+abbrev pub TidyLists : Type 0
+TidyLists =
+    (image : List ℕ) (n : ℕ) → checkOf image ≡ Blocks n
+    → (start : List ℕ) (scans : Scans)
+    → (stateFrom (tidyOf image) start scans ≡ stateFrom image start scans) × (journalFrom (tidyOf image) start scans ≡ journalFrom image start scans)
 
 -- tidy-fresh and tidy-finds: so are fresh states, and what find answers. Show differs: it hands back the bytes of the slot, next and wires renumbered.
 abbrev pub TidyFresh : Type 0
