@@ -259,7 +259,7 @@ uint64_t lane_scan(const uint8_t *image, size_t image_len, uint8_t *state, size_
                    uint8_t *journal, size_t journal_len);
 
 /* The position, from 1, of the block with this tag in the table's chain. Refusals 1 to 11, 50, 51.
- * Only reads. The engine's fifth entry point, show, hands back a part of the table and so is not exported:
+ * Only reads. The engine's entry point show hands back a part of the table and so is not exported:
  * lane_get_slot(image, lane_slot_at(image, position)) is what it shows, with the position that an accepted
  * lane_find answered. */
 uint64_t lane_find(const uint8_t *image, size_t image_len, const uint8_t *tag, size_t tag_len);
