@@ -20,7 +20,7 @@ module _ (first second : List ℕ) (m n : ℕ) (one : checkOf first ≡ Blocks m
   state-by-blocks none = refl
   state-by-blocks (h andThen g) = ap (λ (r : ScanResult). r .state) (next-by-blocks (stateFrom first start h) (stateFrom second start h) (state-by-blocks h) g)
 
-  pub result-by-blocks : (h : Scans) (g : Given) → resultFrom first start h g ≡ resultFrom second start h g
+  result-by-blocks : (h : Scans) (g : Given) → resultFrom first start h g ≡ resultFrom second start h g
   result-by-blocks h g = next-by-blocks (stateFrom first start h) (stateFrom second start h) (state-by-blocks h) g
 
   pub journal-by-blocks : (h : Scans) → journalFrom first start h ≡ journalFrom second start h

@@ -1,5 +1,5 @@
 -- What the functions of encode.rt put together: a slot of what stands before the tag and of the tag, the slots of all blocks one after the other, and
--- the table of its header and its slots.
+-- the table of its header and its slots. For the proofs of `encode_slot`, `encode_slots` and `encode_table`.
 use Prim.Native.Nat.{ℕ, suc, _+_, _*_, _≤_, _<_}
 use mathlib.Core.Path.{_≡_, refl, ap, sym, _∙_}
 use mathlib.Core.List.{List, [], _∷_, _++_}

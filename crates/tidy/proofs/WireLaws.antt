@@ -1,6 +1,6 @@
 -- The two bytes of a wire: what an accepted table has there is the wire's position and code again, for the code that copies them; and a wire written in
 -- a table whose blocks stand in slots 1, 2, 3 and on is read back, for EncodedTable.
-use Prim.Native.Nat.{ℕ, _+_, _-_, _≤_, _<_, _%_}
+use Prim.Native.Nat.{ℕ, _+_, _≤_, _<_, _%_}
 use mathlib.Core.Path.{_≡_}
 use mathlib.Core.List.{List}
 use mathlib.Core.Bool.{true, false}
