@@ -22,7 +22,7 @@ use Rattle.block.specs.Dormant.{timeOutTaken}
 use Rattle.block.specs.Executing.{timeOutOf}
 use Rattle.block.specs.Sound.{sound, zeroed, flagsFit, codeSound, requestSound, stepSound, timesSound}
 use Rattle.block.specs.Call.{Outcome, callOf, Whole}
-use Rattle.block.specs.Turns.{Turns, end, start, finish, countOf, hasStart}
+use Rattle.block.specs.Turns.{Turns, end, turn, countOf, hasStart}
 use Rattle.block.specs.History.{History, fresh, _then_, eventsOf, recordAfter, tickAll, clocksOf, timerOf, takenTimeOut, timeOutInForce}
 use Rattle.block.specs.BlockInvariant.{seenCall, MachineHistory, noCall, andCall, isOpen, openJob, flagCount, EachCall, nothing, andSeen, BlockInvariantHolds, CallsCountInStep}
 use Rattle.block.specs.declared.record.Record.{Record}
@@ -35,6 +35,7 @@ use Rattle.block.proofs.Tests.{none as no-case}
 use Rattle.block.proofs.Shapes.{isDone, isError, isAborted, Settled, idle, runs, aborts, shows, resets, withdraws, settled-of}
 use Rattle.block.proofs.CallLaws.{call-whole}
 use Rattle.block.proofs.SoundLaws.{call-sound}
+use Rattle.block.proofs.TurnLaws.{finish-not-start, start-turn, finish-turn}
 use Rattle.block.proofs.EventLaws.{turns-append, call-turns, call-jobs}
 use Rattle.block.proofs.TimeLaws.{Timing, call-time, call-in-step}
 
@@ -63,8 +64,14 @@ start-counts n h = rw (eqb-true n Start h) (refl, refl)
 pub turns-counts : {k : ℕ} {p q : Option ℕ} {es : List Event} → Turns k p es q → countOf Start es + openCount p ≡ finishes es + openCount q
 unfolding countOf openCount finishes
 turns-counts end = refl
-turns-counts (start v h g x) = let c = start-counts (v .kind) h in omega (arith, turns-counts x)
-turns-counts (finish v h g j x) = let c = finish-counts (v .kind) h in omega (arith, turns-counts x)
+turns-counts {k} {p = none} (turn v h x) =
+    let a = start-turn k v h .0 in
+    let c = start-counts (v .kind) a in
+    omega (arith, rw a at (turns-counts x))
+turns-counts {k} {p = some job} (turn v h x) =
+    let a = finish-turn k job v h .0 in
+    let c = finish-counts (v .kind) a in
+    omega (arith, rw (finish-not-start v a) at (turns-counts x))
 
 open-count : (b : Bool) (j : ℕ) → openCount (cond b (some j) none) ≡ bit b
 unfolding openCount

@@ -13,7 +13,7 @@ use Rattle.block.specs.Event.{emitted, isStart, isFinish}
 use Rattle.block.specs.Sound.{sound}
 use Rattle.block.specs.Rules.{pass}
 use Rattle.block.specs.Call.{Outcome, Call, stops, goes}
-use Rattle.block.specs.Turns.{admits, hasStart, Turns, end, start, finish, StartsHave, nothing, one}
+use Rattle.block.specs.Turns.{admits, hasStart, Turns, end, turn, StartsHave, nothing, one}
 use Rattle.block.specs.BlockInvariant.{openJob}
 use Rattle.block.specs.Phases.{rank}
 use Rattle.block.specs.declared.record.Record.{Record}
@@ -24,6 +24,7 @@ use Rattle.block.proofs.Tests.{never, or-right}
 use Rattle.block.proofs.Shapes.{isDone, isError, isAborted, Settled, idle, runs, aborts, shows, resets, withdraws, Shape, settled, settled-of}
 use Rattle.block.proofs.Passes.{room, openIn, passed, room-most}
 use Rattle.block.proofs.SoundLaws.{call-settled}
+use Rattle.block.proofs.TurnLaws.{finish-not-start, start-turn, finish-turn}
 
 -- the events of a call whose entry has this job, of a block of kind k
 pub data CallEvents (k job : ℕ) : List Event → Type 0 where
@@ -34,8 +35,7 @@ pub data CallEvents (k job : ℕ) : List Event → Type 0 where
 
 pub turns-append : {k : ℕ} {p q s : Option ℕ} {a b : List Event} → Turns k p a q → Turns k q b s → Turns k p (a ++ b) s
 turns-append end y = y
-turns-append (start v h g x) y = start v h g (turns-append x y)
-turns-append (finish v h g j x) y = finish v h g j (turns-append x y)
+turns-append (turn v h x) y = turn v h (turns-append x y)
 
 starts-append : {j : ℕ} (a b : List Event) → StartsHave j a → StartsHave j b → StartsHave j (a ++ b)
 starts-append a b nothing y = y
@@ -98,15 +98,21 @@ call-jobs {k} {i} {e} {r} {o} h c = events (settled (settled-of k (entryFits e �
 -- turns that begin with no job open, of at most two events; and turns that begin with one open and have no start
 events-of-none : {k : ℕ} {q : Option ℕ} (job : ℕ) {es : List Event} → Turns k nil es q → length es ≤ 2 → StartsHave job es → CallEvents k job es
 events-of-none job end l s = none
-events-of-none job (start v h g end) l (one u j s) = starts v h (j h) g
-events-of-none job (start v h g (finish w f a b end)) l (one u j s) = both v w h (j h) g f (b ∙ j h) a
-events-of-none job (start v h g (finish w f a b (start x c d t))) l s = let z : ⊥ = omega arith in absurd z
+events-of-none {k} job (turn v h end) l (one u j s) = let a = start-turn k v h in starts v (a .0) (j (a .0)) (a .1)
+events-of-none {k} job (turn v h (turn w g end)) l (one u j s) =
+    let a = start-turn k v h in
+    let b = finish-turn k (v .job) w (rw (a .0) at g) in
+    both v w (a .0) (j (a .0)) (a .1) (b .0) (b .2 ∙ j (a .0)) (b .1)
+events-of-none job (turn v h (turn w g (turn x f t))) l s = let z : ⊥ = omega arith in absurd z
 
 events-of-some : {k j : ℕ} {q : Option ℕ} (job : ℕ) {es : List Event} → Turns k (some j) es q → hasStart es ≡ false → CallEvents k job es
 unfolding hasStart
 events-of-some job end n = none
-events-of-some job (finish v h g a end) n = finishes v h g
-events-of-some job (finish v h g a (start w f b t)) n = never (sym (rw f (or-right (isStart v) true refl)) ∙ n)
+events-of-some {k} {j} job (turn v h end) n = let a = finish-turn k j v h in finishes v (a .0) (a .1)
+events-of-some {k} {j} job (turn v h (turn w g t)) n =
+    let none-open = finish-not-start v (finish-turn k j v h .0) in
+    let f = start-turn k w (rw none-open at g) .0 in
+    never (sym (rw f (or-right (isStart v) true refl)) ∙ n)
 
 -- between calls no job is open, or no start comes before its finish
 settled-cases : {k : ℕ} {F A : Type 0} {r : Record} → Settled k F r → (openIn r ≡ nil → A) → ((j : ℕ) → openIn r ≡ some j → rank r ≤ 3 → A) → A

@@ -3,6 +3,7 @@ pub mod Pieces
 pub mod Shapes
 pub mod SoundSteps
 pub mod WorkLaws
+pub mod TurnLaws
 pub mod Passes
 pub mod CallLaws
 pub mod CallPhases

@@ -24,8 +24,7 @@ use Rattle.block.specs.Aborting.{aborting}
 use Rattle.block.specs.Resetting.{resetting}
 use Rattle.block.specs.Rules.{rule, pass}
 use Rattle.block.specs.Phases.{isEnd, rank}
-use Rattle.block.specs.Turns.{admits, hasStart, Turns, end, finish, StartsHave, nothing, one}
-use Rattle.block.specs.Turns.{start as begin}
+use Rattle.block.specs.Turns.{admits, hasStart, Turns, end, StartsHave, nothing, one}
 use Rattle.block.specs.History.{tickAll, clocksOf}
 use Rattle.block.specs.declared.record.Record.{Record}
 use Rattle.block.specs.declared.entry.Inputs.{Inputs}
@@ -38,6 +37,7 @@ use Rattle.block.proofs.Tests.{none as no-case}
 use Rattle.block.proofs.Shapes.{End, isDone, isError, isAborted, endStep, endFlags, busy, rec, timesFit, errorCode, EndFits}
 use Rattle.block.proofs.Shapes.{Settled, idle, runs, aborts, shows, resets, withdraws, Shape, settled, unshown}
 use Rattle.block.proofs.WorkLaws.{coded, form, Worked, worked-laws}
+use Rattle.block.proofs.TurnLaws.{turn-start, turn-finish}
 
 -- the most events that can still come
 unfoldable pub room : Record → ℕ
@@ -150,7 +150,7 @@ module _ (k : ℕ) (i : Inputs) (e : Entry) where
   unfolding dormant rank room openIn hasStart admits
   from-idle =
       choose (Passed k e freshRecord) (i .start) _ _
-      (λ h. going freshRecord _ refl (settled (runs (taken-times k e))) (λ _. begin _ refl refl end) (one _ (λ _. refl) nothing)
+      (λ h. going freshRecord _ refl (settled (runs (taken-times k e))) (λ _. turn-start _ refl refl end) (one _ (λ _. refl) nothing)
       (λ l. let z : ⊥ = omega arith in absurd z) (omega arith) (omega arith) (starts refl refl (started-timer k e freshRecord) (started-timeout k e freshRecord) refl))
       (λ h. stopped freshRecord _ refl idle (λ x. omega arith) (λ _. end) nothing refl (omega arith))
 
@@ -215,7 +215,7 @@ module _ (k : ℕ) (i : Inputs) (e : Entry) where
         (λ _. choose (Passed k e abt) (eqb (e .«abort_reply») Complete) _ _
         (λ _. choose (Passed k e abt) (isEdge k) _ _
         (λ h. going abt _ refl (unshown isAborted (refl, a h) x) (λ _. end) nothing (λ _. refl) (omega arith) (omega arith) (leaves (omega arith)))
-        (λ h. going abt _ refl (settled (withdraws h x)) (λ _. finish _ refl (rw h) refl end) (one _ no-case nothing) (λ _. refl) (omega arith) (omega arith) (leaves (omega arith))))
+        (λ h. going abt _ refl (settled (withdraws h x)) (λ _. turn-finish _ refl (rw h) refl end) (one _ no-case nothing) (λ _. refl) (omega arith) (omega arith) (leaves (omega arith))))
         (λ _. stopped abt _ refl (aborts a x) (λ q. omega arith) (λ _. end) nothing refl (omega arith)))
 
     from-withdraws : isEdge k ≡ false → Passed k e (rec Resetting busy false j 0 l t w) (resetting e (rec Resetting busy false j 0 l t w))
@@ -261,9 +261,9 @@ module _ (k : ℕ) (i : Inputs) (e : Entry) where
 
       from-unshown : (z : End) → EndFits k (entryFits e ≡ true) z false c → Passed k e (rec (endStep z) busy false j c l t w) (ended k i (rec (endStep z) busy false j c l t w))
       unfolding ended rank room openIn hasStart admits
-      from-unshown isDone f = stopped _ _ refl (shows isDone (f .0, f .1, λ g. rw g) x) (λ q. omega arith) (λ _. finish _ refl (rw (f .1)) refl end) (one _ no-case nothing) refl (omega arith)
-      from-unshown isError f = stopped _ _ refl (shows isError f x) (λ q. omega arith) (λ g. finish _ refl (f g) refl end) (one _ no-case nothing) refl (omega arith)
-      from-unshown isAborted f = stopped _ _ refl (shows isAborted f x) (λ q. omega arith) (λ _. finish _ refl (rw (f .1)) refl end) (one _ no-case nothing) refl (omega arith)
+      from-unshown isDone f = stopped _ _ refl (shows isDone (f .0, f .1, λ g. rw g) x) (λ q. omega arith) (λ _. turn-finish _ refl (rw (f .1)) refl end) (one _ no-case nothing) refl (omega arith)
+      from-unshown isError f = stopped _ _ refl (shows isError f x) (λ q. omega arith) (λ g. turn-finish _ refl (f g) refl end) (one _ no-case nothing) refl (omega arith)
+      from-unshown isAborted f = stopped _ _ refl (shows isAborted f x) (λ q. omega arith) (λ _. turn-finish _ refl (rw (f .1)) refl end) (one _ no-case nothing) refl (omega arith)
 
   from-settled : {r : Record} → Settled k (entryFits e ≡ true) r → Passed k e r (pass k i e r)
   unfolding rule

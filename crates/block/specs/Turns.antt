@@ -19,12 +19,20 @@ admits k v =
     && (not (eqb (v .kind) AbortedEvent) || hasAbort k)
     && (not (eqb (v .kind) Withdrawn) || not (isEdge k)))
 
+-- whether an event is the next one of a block of kind k that has a job open, or none: "begin with a start and take turns", "a finish has the job of the start just before it"
+unfoldable pub takesTurn : ℕ → Option ℕ → Event → Bool
+takesTurn k none v = isStart v && admits k v
+takesTurn k (some job) v = isFinish v && admits k v && eqb (v .job) job
+
+-- the job open after it
+abbrev pub openAfter : Event → Option ℕ
+openAfter v = cond (isStart v) (some (v .job)) none
+
 -- The events of a block of kind k that had the job p open before them, if any, and has q open after them.
--- "The entries, if any, begin with a start and take turns; the last may be a start." "a finish has the job of the start just before it"
+-- "The entries, if any, begin with a start and take turns; the last may be a start."
 pub data Turns (k : ℕ) : Option ℕ → List Event → Option ℕ → Type 0 where
   end : {p : Option ℕ} → Turns k p [] p
-  start : {es : List Event} {q : Option ℕ} (v : Event) → isStart v ≡ true → admits k v ≡ true → Turns k (some (v .job)) es q → Turns k none (v ∷ es) q
-  finish : {es : List Event} {q : Option ℕ} {j : ℕ} (v : Event) → isFinish v ≡ true → admits k v ≡ true → v .job ≡ j → Turns k none es q → Turns k (some j) (v ∷ es) q
+  turn : {p q : Option ℕ} {es : List Event} (v : Event) → takesTurn k p v ≡ true → Turns k (openAfter v) es q → Turns k p (v ∷ es) q
 
 -- "Starts, done, failed, aborted and withdrawn are how many entries of that kind the block has."
 unfoldable pub countOf : ℕ → List Event → ℕ

@@ -1,12 +1,10 @@
--- Document 01, "Report and journal", with the job as document 02, 3/14 has it: a report entry and a journal event, read from bytes.
+-- Document 01, "Report and journal", with the job as document 02, 3/14 has it: a report entry, read from bytes.
 use Prim.Native.Nat.{ℕ, _+_}
 use mathlib.Core.List.{List}
 use Rattle.words.specs.Word.{numberAt}
 use Rattle.layout.specs.Buffer.{byteAt, jobWidth}
 use Rattle.layout.specs.ReportLayout.{reportOffset}
-use Rattle.layout.specs.EventLayout.{eventOffset}
 use Rattle.conformance.specs.declared.read.Report.{Report}
-use Rattle.conformance.specs.declared.read.Posted.{Posted}
 
 -- "flags, pieces used, passes, step, code (2), zero (2)" "job in 8-15"
 abbrev pub reportAt : List ℕ → ℕ → Report
@@ -18,12 +16,4 @@ reportAt s at =
       step = byteAt s (at + reportOffset .step);
       code = numberAt 2 s (at + reportOffset .code);
       job = numberAt jobWidth s (at + reportOffset .job);
-    }
-
--- "kind (1 start, 2 done, 3 failed, 4 aborted, 5 withdrawn), position, code (2; 0 unless failed)" "job in 4-11"
-abbrev pub postedAt : List ℕ → ℕ → Posted
-postedAt s at =
-    record {
-      position = byteAt s (at + eventOffset .position);
-      event = record { kind = byteAt s at; code = numberAt 2 s (at + eventOffset .code); job = numberAt jobWidth s (at + eventOffset .job) };
     }

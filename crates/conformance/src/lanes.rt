@@ -4,7 +4,6 @@ use crate::frame::with_job;
 use crate::frame::working;
 use crate::line;
 use crate::names;
-use crate::read::posted_at;
 use crate::read::readable;
 use crate::text::column;
 use crate::text::number;
@@ -13,6 +12,7 @@ use block::entry::Entry;
 use engine::scan::Scanned;
 use layout::entry::ENTRY_BYTES;
 use layout::event::EVENT_BYTES;
+use layout::event::decode_event;
 use layout::record::RECORD_BYTES;
 use layout::report::REPORT_BYTES;
 use table::check::Checked;
@@ -81,7 +81,8 @@ fn journal_line(journal: &[u8], count: usize) {
         if 0 < i {
             print(b", ");
         }
-        let posted = posted_at(journal, EVENT_BYTES * i);
+        let at = EVENT_BYTES * i;
+        let posted = decode_event(&journal[at..]);
         print_tag(posted.position as usize);
         names::event(posted.event);
         i += 1;

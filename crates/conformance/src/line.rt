@@ -7,6 +7,7 @@ use crate::text::number;
 use crate::text::number_column;
 use crate::text::print;
 use layout::event::EVENT_BYTES;
+use layout::event::decode_event;
 ghost use Prim.Native.Nat.{_+_, _≤_};
 ghost use lib.ListN.{length};
 ghost use Rattle.layout.specs.Buffer.{reportLength};
@@ -48,7 +49,8 @@ fn events(journal: &[u8], count: usize) {
         if 0 < i {
             print(b", ");
         }
-        let posted = read::posted_at(journal, EVENT_BYTES * i);
+        let at = EVENT_BYTES * i;
+        let posted = decode_event(&journal[at..]);
         names::event(posted.event);
         i += 1;
     }

@@ -1,12 +1,11 @@
-// Report entries and journal events, read from bytes.
-use block::event::Event;
+// Report entries read from bytes, and how many events of a journal may be.
 use layout::event;
 use layout::report;
 ghost use mathlib.Core.Path.{_≡_};
 ghost use Prim.Native.Nat.{_+_, _*_, _≤_};
 ghost use lib.ListN.{length};
 ghost use Rattle.layout.specs.Buffer.{reportLength, eventLength};
-ghost use Rattle.conformance.specs.Read.{reportAt, postedAt};
+ghost use Rattle.conformance.specs.Read.{reportAt};
 
 // What a call leaves, as its report entry says it.
 pub struct Report {
@@ -16,12 +15,6 @@ pub struct Report {
     pub step: u8,
     pub code: u16,
     pub job: u64,
-}
-
-// An event with the position of its block.
-pub struct Posted {
-    pub position: u8,
-    pub event: Event,
 }
 
 // The report entry from the place `at` on.
@@ -36,22 +29,6 @@ pub fn report_at(s: &[u8], at: usize) -> Report
         step: s[at + report::STEP_OFFSET],
         code: words::u16_at(s, at + report::CODE_OFFSET),
         job: words::u64_at(s, at + report::JOB_OFFSET),
-    }
-}
-
-// The event from the place `at` on.
-pub fn posted_at(s: &[u8], at: usize) -> Posted
-    requires { ⌜ at + eventLength ≤ length (now s) ⌝ }
-    ensures { λ r. ⌜ r ≡ postedAt (now (s .entry)) at ⌝ }
-{
-    let event = Event {
-        kind: s[at],
-        code: words::u16_at(s, at + event::CODE_OFFSET),
-        job: words::u64_at(s, at + event::JOB_OFFSET),
-    };
-    Posted {
-        position: s[at + event::POSITION_OFFSET],
-        event,
     }
 }
 

@@ -233,5 +233,19 @@ bytes-take (suc n) (x ∷ l) b (suc i) = bytes-take n l (λ j. b (suc j)) i
 pub bytes-drop : (n : ℕ) (l : List ℕ) → Bytes l → Bytes (drop n l)
 bytes-drop n l b i = rw getD-drop (b (n + i))
 
+pub bytes-append : (l m : List ℕ) → Bytes l → Bytes m → Bytes (l ++ m)
+bytes-append [] m a b i = b i
+bytes-append (x ∷ l) m a b zero = a 0
+bytes-append (x ∷ l) m a b (suc i) = bytes-append l m (λ j. a (suc j)) b i
+
+pub bytes-cons : (x : ℕ) (l : List ℕ) → x < 256 → Bytes l → Bytes (x ∷ l)
+bytes-cons x l h b zero = h
+bytes-cons x l h b (suc i) = b i
+
+pub bytes-zeros : (n : ℕ) → Bytes (replicate n 0)
+bytes-zeros zero i = omega arith
+bytes-zeros (suc n) zero = omega arith
+bytes-zeros (suc n) (suc i) = bytes-zeros n i
+
 pub part-bytes : (size i : ℕ) (s : List ℕ) → Bytes s → Bytes (part size i s)
 part-bytes size i s b = bytes-take size (drop (size * i) s) (bytes-drop (size * i) s b)

@@ -6,11 +6,11 @@ use mathlib.Core.Bool.{Bool, true}
 use mathlib.Core.List.{List, [], _∷_, _++_, append-assoc, append-nil}
 use native.Mathlib.Omega.{arith}
 use lib.Dec.{ltb}
-use lib.ListN.{length, getD, take, drop, take-append-drop, length-append, length-drop}
+use lib.ListN.{length, getD, take, drop, take-append-drop, length-append, length-drop, replicate}
 use lib.Seq.{length-take-le, take-all, take-at, drop-at, drop-drop}
 use borrow.Author.Tests.{ltb-true, eqb-true, lt-ltb}
 use Rattle.words.specs.Word.{Bytes, number, bytes, numberAt, allZero, zeroAt}
-use Rattle.words.proofs.WordLaws.{number-one, number-split, length-bytes, number-of-bytes}
+use Rattle.words.proofs.WordLaws.{number-one, number-split, length-bytes, bytes-bytes, number-of-bytes}
 use Rattle.block.specs.Entry.{mostPieces, entryFits}
 use Rattle.block.specs.PackedEntry.{pieceOf}
 use Rattle.block.specs.declared.entry.Piece.{Piece}
@@ -20,7 +20,7 @@ use Rattle.layout.specs.EntryLayout.{pieceLength, pieceField, entryOffse
 use Rattle.layout.specs.EntryLayout.{encodePiece, decodePiece, encodePieces, inputsByte, encodeEntry, decodeEntry}
 use Rattle.layout.proofs.Fits.{All, nil, cons, PieceFits, EntryFits}
 use Rattle.layout.proofs.BitLaws.{inputs-bound, inputs-trip, inputs-back}
-use Rattle.layout.proofs.BufferLaws.{fill-whole}
+use Rattle.layout.proofs.BufferLaws.{fill-whole, bytes-append, bytes-cons, bytes-zeros}
 use Rattle.membership.proofs.Logic.{and-right, and-join}
 use Rattle.block.proofs.Tests.{each}
 use Rattle.layout.proofs.FieldLaws.{field-bound, field-back, field-last, zero-back, byte-back}
@@ -187,6 +187,44 @@ pub encode-length : (e : Entry) → length (e .pieces) ≡ mostPieces → length
 encode-length e l =
     let n : length (drop (entryOffset .job) (encodeEntry e)) ≡ jobWidth = ap length (after-pieces e l) ∙ length-bytes jobWidth (e .job) in
     omega (arith, n, length-drop (entryOffset .job) (encodeEntry e))
+
+-- it is bytes
+pieces-bytes : {ps : List Piece} → All PieceFits ps → Bytes (encodePieces ps)
+unfolding encodePieces
+pieces-bytes nil = bytes-zeros 0
+pieces-bytes (cons {x = p} {xs = ps} h a) =
+    let code : List ℕ = bytes 2 (p .code) ++ bytes 4 (p .clock) in
+    bytes-append (encodePiece p) (encodePieces ps)
+    (bytes-cons (p .reply) (0 ∷ code) (h .reply)
+    (bytes-cons 0 code (omega arith) (bytes-append (bytes 2 (p .code)) (bytes 4 (p .clock)) (bytes-bytes 2 (p .code)) (bytes-bytes 4 (p .clock)))))
+    (pieces-bytes a)
+
+-- a field and what stands after it
+field-then : (w x : ℕ) (l : List ℕ) → Bytes l → Bytes (bytes w x ++ l)
+field-then w x l b = bytes-append (bytes w x) l (bytes-bytes w x) b
+
+pub encode-bytes : (e : Entry) → EntryFits e → Bytes (encodeEntry e)
+unfolding encodeEntry
+encode-bytes e f =
+    let bound : inputsByte (e .inputs) < 4 = inputs-bound (e .inputs) in
+    let pieces : List ℕ = encodePieces (e .pieces) ++ bytes jobWidth (e .job) in
+    let clock : List ℕ = bytes 4 (e .clock) ++ pieces in
+    let timeout : List ℕ = bytes 4 (e .timeout) ++ clock in
+    let limit : List ℕ = bytes 4 (e .limit) ++ timeout in
+    let quad : List ℕ = replicate 4 0 ++ limit in
+    let pair : List ℕ = replicate 2 0 ++ quad in
+    let code : List ℕ = bytes 2 (e .«abort_code») ++ pair in
+    bytes-cons (inputsByte (e .inputs)) (e .count ∷ e .«abort_reply» ∷ e .«reset_reply» ∷ code) (omega arith)
+    (bytes-cons (e .count) (e .«abort_reply» ∷ e .«reset_reply» ∷ code) (f .count)
+    (bytes-cons (e .«abort_reply») (e .«reset_reply» ∷ code) (f .abortReply)
+    (bytes-cons (e .«reset_reply») code (f .resetReply)
+    (field-then 2 (e .«abort_code») pair
+    (bytes-append (replicate 2 0) quad (bytes-zeros 2)
+    (bytes-append (replicate 4 0) limit (bytes-zeros 4)
+    (field-then 4 (e .limit) timeout
+    (field-then 4 (e .timeout) clock
+    (field-then 4 (e .clock) pieces
+    (bytes-append (encodePieces (e .pieces)) (bytes jobWidth (e .job)) (pieces-bytes (f .pieces)) (bytes-bytes jobWidth (e .job))))))))))))
 
 -- the zero byte of each of four pieces
 module _ (rest : List ℕ) where

@@ -14,7 +14,8 @@ use Rattle.words.specs.Word.{Bytes, bytes}
 use Rattle.words.proofs.WordLaws.{number-of-bytes}
 use Rattle.block.specs.declared.event.Event.{Event}
 use Rattle.layout.specs.Buffer.{eventLength, jobWidth}
-use Rattle.layout.specs.EventLayout.{Posted, eventOffset, encodeEvent, decodeEvent, encodeEvents, decodeEvents, eventsAt}
+use Rattle.layout.specs.EventLayout.{eventOffset, encodeEvent, decodeEvent, encodeEvents, decodeEvents, eventsAt}
+use Rattle.layout.specs.declared.event.Posted.{Posted}
 use Rattle.layout.proofs.Fits.{All, nil, cons, EventFits}
 use Rattle.layout.proofs.BufferLaws.{bytes-take, bytes-drop}
 use Rattle.layout.proofs.FieldLaws.{field-bound, field-back, field-last, byte-back}
@@ -149,7 +150,16 @@ encode-append (p ∷ ps) qs =
     let e : List ℕ = encodeEvent (p .position) (p .event) in
     ap (λ (x : List ℕ). e ++ x) (encode-append ps qs) ∙ sym (append-assoc e (encodePosted ps) (encodePosted qs))
 
--- the events of one position
+-- the events of one position: of an event and those after it
+pub at-here : (k : ℕ) (p : Posted) (ps : List Posted) → p .position ≡ k → eventsAt k (p ∷ ps) ≡ p .event ∷ eventsAt k ps
+unfolding eventsAt
+at-here k p ps e = rw (eq-eqb (p .position) k e)
+
+pub at-elsewhere : (k : ℕ) (p : Posted) (ps : List Posted) → (p .position ≡ k → ⊥) → eventsAt k (p ∷ ps) ≡ eventsAt k ps
+unfolding eventsAt
+at-elsewhere k p ps h = rw (ne-eqb (p .position) k h)
+
+-- of two journals joined, and of one block's events
 keep : (b : Bool) (v : Event) (l m : List Event) → cond b (v ∷ (l ++ m)) (l ++ m) ≡ cond b (v ∷ l) l ++ m
 keep true v l m = refl
 keep false v l m = refl

@@ -6,11 +6,7 @@ use lib.Dec.{eqb}
 use Rattle.words.specs.Word.{bytes, numberAt}
 use Rattle.layout.specs.Buffer.{byteAt, part, eventLength, jobWidth}
 use Rattle.block.specs.declared.event.Event.{Event}
-
--- an event with the position of its block
-pub record Posted : Type 0 where
-  pub position : ℕ
-  pub event : Event
+use Rattle.layout.specs.declared.event.Posted.{Posted}
 
 -- where each field begins
 pub record EventOffsets : Type 0 where

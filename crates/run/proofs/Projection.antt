@@ -14,7 +14,8 @@ use Rattle.layout.specs.Buffer.{recordLength, entryLength, reportLength, eventL
 use Rattle.layout.specs.RecordLayout.{decodeRecord, recordForm}
 use Rattle.layout.proofs.Fits.{RecordFits}
 use Rattle.layout.specs.ReportLayout.{reportedPieces, reportedPasses}
-use Rattle.layout.specs.EventLayout.{Posted, decodeEvents, eventsAt}
+use Rattle.layout.specs.EventLayout.{decodeEvents, eventsAt}
+use Rattle.layout.specs.declared.event.Posted.{Posted}
 use Rattle.layout.proofs.BufferLaws.{part-bytes}
 use Rattle.layout.proofs.RecordLaws.{decode-encode, encode-form}
 use Rattle.layout.proofs.EntryLaws.{decode-fits}

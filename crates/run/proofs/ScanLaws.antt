@@ -15,7 +15,8 @@ use Rattle.table.specs.declared.place.Verdict.the-variants.{Passed, Failed}
 use Rattle.table.specs.declared.check.Checked.the-variants.{Blocks}
 use Rattle.layout.specs.Buffer.{recordLength, entryLength, part}
 use Rattle.layout.specs.RecordLayout.{recordForm}
-use Rattle.layout.specs.EventLayout.{Posted, eventsAt}
+use Rattle.layout.specs.EventLayout.{eventsAt}
+use Rattle.layout.specs.declared.event.Posted.{Posted}
 use Rattle.layout.proofs.Fits.{RecordFits}
 use Rattle.layout.proofs.BufferLaws.{part-bytes}
 use Rattle.layout.proofs.EntryLaws.{decode-fits, entry-fits}

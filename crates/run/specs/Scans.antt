@@ -7,7 +7,8 @@ use Rattle.words.specs.Word.{Bytes}
 use Rattle.table.specs.Blocks.{blocksOf, configAt}
 use Rattle.layout.specs.Buffer.{reportLength, part}
 use Rattle.layout.specs.ReportLayout.{reportedPieces, reportedPasses}
-use Rattle.layout.specs.EventLayout.{Posted, decodeEvents, eventsAt}
+use Rattle.layout.specs.EventLayout.{decodeEvents, eventsAt}
+use Rattle.layout.specs.declared.event.Posted.{Posted}
 use Rattle.block.specs.declared.record.Flags.{Flags}
 use Rattle.block.specs.History.{Seen, History, fresh, _then_}
 use Rattle.engine.specs.Told.{Told}

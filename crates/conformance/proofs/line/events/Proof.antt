@@ -1,6 +1,6 @@
 -- `line::events` is safe and ends: each event lies within the journal.
 use Prim.Native.Nat.{_*_, _-_, _≤_}
-use lib.ListN.{length}
+use lib.ListN.{length, length-take, length-drop}
 use native.Mathlib.Omega.{arith}
 use borrow.Author.Needs.{needs}
 use Rattle.layout.specs.Buffer.{eventLength}
@@ -25,11 +25,20 @@ slice-aggregate-print c = search needs
 print-requires : tie.Need-print-requires Inv-loop μ-loop
 print-requires c κs = search needs
 
-mul-posted-at : tie.Need-mul-posted-at Inv-loop μ-loop
-mul-posted-at c = omega arith
+mul-at : tie.Need-mul-at Inv-loop μ-loop
+mul-at c = omega arith
 
-posted-at-requires : tie.Need-posted-at-requires Inv-loop μ-loop
-posted-at-requires c κs = search needs
+sub-decode-event : tie.Need-sub-decode-event Inv-loop μ-loop
+sub-decode-event c = omega arith
+
+part-decode-event-start : tie.Need-part-decode-event-start Inv-loop μ-loop
+part-decode-event-start c = omega arith
+
+part-decode-event-end : tie.Need-part-decode-event-end Inv-loop μ-loop
+part-decode-event-end c = omega arith
+
+decode-event-requires : tie.Need-decode-event-requires Inv-loop μ-loop
+decode-event-requires c κs = simp (length-take, length-drop) (omega arith)
 
 event-requires : tie.Need-event-requires Inv-loop μ-loop
 event-requires c κs = search needs
@@ -56,8 +65,11 @@ events-spec =
     loop-holds
     slice-aggregate-print
     print-requires
-    mul-posted-at
-    posted-at-requires
+    mul-at
+    sub-decode-event
+    part-decode-event-start
+    part-decode-event-end
+    decode-event-requires
     event-requires
     add-i
     loop-less
