@@ -52,17 +52,18 @@ pub fn event(v: Event) {
     }
 }
 
-fn numbered(text: &[u8], n: u8) {
+fn numbered(text: &[u8], n: u64) {
     print(text);
-    number(n as u64);
+    number(n);
 }
 
 // The number of a refusal, and its place where one is named.
 pub fn refusal(n: u8, place: Place) {
-    numbered(b"refused ", n);
+    numbered(b"refused ", n as u64);
     match place {
         Place::Header => {}
-        Place::Slot(slot) => numbered(b" at slot ", slot),
-        Place::Position(position) => numbered(b" at position ", position),
+        Place::Slot(slot) => numbered(b" at slot ", slot as u64),
+        Place::Position(position) => numbered(b" at position ", position as u64),
+        Place::Event(event) => numbered(b" at event ", event as u64),
     }
 }

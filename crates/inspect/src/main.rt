@@ -38,22 +38,23 @@ fn print(text: &[u8]) {
     io::write_all(1, text);
 }
 
-fn print_numbered(text: &[u8], number: u8) {
+fn print_numbered(text: &[u8], number: u64) {
     print(text);
-    io::print_decimal(1, number as u64);
+    io::print_decimal(1, number);
 }
 
 // The place of a refusal, nothing where none is named.
 fn print_place(place: Place) {
     match place {
         Place::Header => {}
-        Place::Slot(slot) => print_numbered(b" at slot ", slot),
-        Place::Position(position) => print_numbered(b" at position ", position),
+        Place::Slot(slot) => print_numbered(b" at slot ", slot as u64),
+        Place::Position(position) => print_numbered(b" at position ", position as u64),
+        Place::Event(event) => print_numbered(b" at event ", event as u64),
     }
 }
 
 fn print_refusal(number: u8, place: Place) {
-    print_numbered(b"refused ", number);
+    print_numbered(b"refused ", number as u64);
     print_place(place);
 }
 

@@ -1,13 +1,15 @@
-// The entry points for C. Each answer is one number: a value, or a refusal's number × 2^32 + its place.
+// The entry points for C. Each answer is one number: a value, or a refusal's number × 2^32 + its place; 2^32 - 1 stands for every greater value or place.
 ghost use mathlib.Core.Path.{_≡_};
 ghost use Rattle.table.specs.Place.{placeNumber, refusal};
 ghost use Rattle.table.specs.Check.{checkOf, checkedAnswer};
 ghost use Rattle.table.specs.Lookup.{findOf, foundAnswer};
 ghost use Rattle.engine.specs.Fresh.{freshOf};
 ghost use Rattle.engine.specs.Scan.{scanOf, scanAnswer};
+ghost use Rattle.journal.specs.Check.{checkJournalOf, journalAnswer};
 ghost use Rattle.tidy.specs.Tidy.{tidyInto};
-ghost use Rattle.lane.specs.Packed.{packed, unpacked};
+ghost use Rattle.lane.specs.Packed.{saturated, fitted, packed, unpacked};
 use engine::scan::Scanned;
+use journal::check::JournalChecked;
 use table::check::Checked;
 use table::lookup::Found;
 use table::place::Place;
@@ -15,37 +17,57 @@ use table::place::Place;
 // What a refusal's number weighs in an answer.
 pub const NUMBER_WEIGHT: u64 = 4294967296;
 
-fn pack_refusal(number: u8, place: Place) -> u64
-    ensures { λ r. ⌜ r ≡ packed (refusal number (placeNumber place)) ⌝ }
+// A number for the lower half of an answer.
+fn saturate(n: usize) -> u64
+    ensures { λ r. ⌜ r ≡ saturated n ⌝ }
 {
-    let k = table::place::place_number(place);
-    (number as u64) * NUMBER_WEIGHT + k as u64
+    let wide = n as u64;
+    if wide < NUMBER_WEIGHT {
+        return wide;
+    }
+    NUMBER_WEIGHT - 1
+}
+
+fn pack_refusal(number: u8, place: Place) -> u64
+    ensures { λ r. ⌜ r ≡ packed (fitted (refusal number (placeNumber place))) ⌝ }
+{
+    let k = saturate(table::place::place_number(place));
+    (number as u64) * NUMBER_WEIGHT + k
 }
 
 fn pack_checked(answer: Checked) -> u64
-    ensures { λ r. ⌜ r ≡ packed (checkedAnswer answer) ⌝ }
+    ensures { λ r. ⌜ r ≡ packed (fitted (checkedAnswer answer)) ⌝ }
 {
     match answer {
-        Checked::Blocks(blocks) => blocks as u64,
+        Checked::Blocks(blocks) => saturate(blocks),
         Checked::Refused(number, place) => pack_refusal(number, place),
     }
 }
 
 fn pack_found(answer: Found) -> u64
-    ensures { λ r. ⌜ r ≡ packed (foundAnswer answer) ⌝ }
+    ensures { λ r. ⌜ r ≡ packed (fitted (foundAnswer answer)) ⌝ }
 {
     match answer {
-        Found::At(position) => position as u64,
+        Found::At(position) => saturate(position),
         Found::Refused(number, place) => pack_refusal(number, place),
     }
 }
 
 fn pack_scanned(answer: Scanned) -> u64
-    ensures { λ r. ⌜ r ≡ packed (scanAnswer answer) ⌝ }
+    ensures { λ r. ⌜ r ≡ packed (fitted (scanAnswer answer)) ⌝ }
 {
     match answer {
-        Scanned::Events(events) => events as u64,
+        Scanned::Events(events) => saturate(events),
         Scanned::Refused(number, place) => pack_refusal(number, place),
+    }
+}
+
+fn pack_journal(answer: JournalChecked) -> u64
+    ensures { λ r. ⌜ r ≡ packed (fitted (journalAnswer answer)) ⌝ }
+{
+    match answer {
+        JournalChecked::Events(events) => saturate(events),
+        JournalChecked::Refused(number, place) => pack_refusal(number, place),
     }
 }
 
@@ -108,4 +130,13 @@ pub extern "C" fn lane_tidy(image: &[u8], out: &mut [u8]) -> u64
     ensures out { λ _. ⌜ now (out .exit) ≡ tidyInto (now (image .entry)) (now (out .entry)) .out ⌝ }
 {
     pack_checked(tidy::tidy::tidy(image, out))
+}
+
+// Check a journal against a table: the number of its events, or the first check that fails. Of 2^32 or more events that number, and the place of a bad one, may be 2^32 - 1 instead.
+#[no_mangle]
+pub extern "C" fn lane_check_journal(image: &[u8], journal: &[u8]) -> u64
+    ensures answer { λ r. ⌜ r ≡ packed (fitted (journalAnswer (checkJournalOf (now (image .entry)) (now (journal .entry))))) ⌝ }
+    ensures unpacks { λ r. ⌜ unpacked r ≡ fitted (journalAnswer (checkJournalOf (now (image .entry)) (now (journal .entry)))) ⌝ }
+{
+    pack_journal(journal::check::check_journal(image, journal))
 }

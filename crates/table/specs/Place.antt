@@ -2,15 +2,16 @@
 use Prim.Native.Nat.{ℕ}
 use mathlib.Core.Bool.{Bool, true, false}
 use Rattle.table.specs.declared.place.Place.{Place}
-use Rattle.table.specs.declared.place.Place.the-variants.{Header, Slot, Position}
+use Rattle.table.specs.declared.place.Place.the-variants.{Header, Slot, Position, Event}
 use Rattle.table.specs.declared.place.Verdict.{Verdict}
 use Rattle.table.specs.declared.place.Verdict.the-variants.{Passed, Failed}
 
--- "A refusal is a number and a place (slot or position, 0 if none is named)."
+-- "A refusal is a number and a place (slot or position, 0 if none is named)."; document 02, 6/14: "the number of the first bad event, from 1, as its place"
 abbrev pub placeNumber : Place → ℕ
 placeNumber Header = 0
 placeNumber (Slot k) = k
 placeNumber (Position k) = k
+placeNumber (Event k) = k
 
 -- an answer in document 01's numbers: a value, or a refusal's number and place
 pub data Answer : Type 0 where

@@ -10,8 +10,9 @@ use Rattle.table.proofs.Table.{blocks-ok}
 use Rattle.table.proofs.ByBlocks.{find-by-blocks}
 use Rattle.engine.proofs.ByBlocks.{fresh-by-blocks, scan-by-blocks}
 use Rattle.run.proofs.ByBlocks.{state-by-blocks, journal-by-blocks}
+use Rattle.journal.proofs.ByBlocks.{check-journal-by-blocks}
 use Rattle.tidy.specs.Encode.{encodeNext, encodeTable, encodedLength}
-use Rattle.tidy.specs.Tidy.{tidyOf, TidyAccepted, TidyLength, TidyKeeps, TidySlots, TidyTwice, TidySame, SameTidy, TidyScans, TidyLists, TidyFresh, TidyFinds}
+use Rattle.tidy.specs.Tidy.{tidyOf, TidyAccepted, TidyLength, TidyKeeps, TidySlots, TidyTwice, TidySame, SameTidy, TidyScans, TidyLists, TidyFresh, TidyFinds, TidyJournals}
 use Rattle.tidy.proofs.SlotLaws.{slot-has, table-length}
 use Rattle.tidy.proofs.KeptLaws.{block-kept}
 use Rattle.tidy.proofs.EncodedTable.{ok-tagged, encoded-accepted, encoded-blocks}
@@ -65,3 +66,6 @@ tidy-fresh image n ok = fresh-by-blocks (tidyOf image) image n n (tidy-accepted 
 
 pub tidy-finds : TidyFinds
 tidy-finds image n ok = find-by-blocks (tidyOf image) image n n (tidy-accepted image n ok) ok (tidy-keeps image n ok)
+
+pub tidy-journals : TidyJournals
+tidy-journals image n ok = check-journal-by-blocks (tidyOf image) image n n (tidy-accepted image n ok) ok (tidy-keeps image n ok)

@@ -20,6 +20,7 @@ use Rattle.engine.specs.Told.{Told}
 use Rattle.engine.specs.Fresh.{freshOf}
 use Rattle.engine.specs.Scan.{scanOf}
 use Rattle.run.specs.Scans.{Scans, stateFrom, journalFrom}
+use Rattle.journal.specs.Check.{checkJournalOf}
 use Rattle.tidy.specs.Encode.{encodeNext, encodeTable, encodedLength}
 
 -- "Write the table anew": the image of its own blocks
@@ -100,9 +101,12 @@ TidyLists =
     → (start : List ℕ) (scans : Scans)
     → (stateFrom (tidyOf image) start scans ≡ stateFrom image start scans) × (journalFrom (tidyOf image) start scans ≡ journalFrom image start scans)
 
--- tidy-fresh and tidy-finds: so are fresh states, and what find answers. Show differs: it hands back the bytes of the slot, next and wires renumbered.
+-- tidy-fresh, tidy-finds and tidy-journals: so are fresh states, what find answers, and what is answered of a journal. Show differs: it hands back the bytes of the slot, next and wires renumbered.
 abbrev pub TidyFresh : Type 0
 TidyFresh = (image : List ℕ) (n : ℕ) → checkOf image ≡ Blocks n → (state : List ℕ) → freshOf (tidyOf image) state ≡ freshOf image state
 
 abbrev pub TidyFinds : Type 0
 TidyFinds = (image : List ℕ) (n : ℕ) → checkOf image ≡ Blocks n → (tag : List ℕ) → findOf (tidyOf image) tag ≡ findOf image tag
+
+abbrev pub TidyJournals : Type 0
+TidyJournals = (image : List ℕ) (n : ℕ) → checkOf image ≡ Blocks n → (journal : List ℕ) → checkJournalOf (tidyOf image) journal ≡ checkJournalOf image journal

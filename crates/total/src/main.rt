@@ -1,6 +1,7 @@
 // Every entry point and every export called on free slices. No function here has a `requires`, so none of those can have one: what it asked, its
 // caller could not show. The program calls each with no bytes at all and prints what it answered.
 use engine::scan::Scanned;
+use journal::check::JournalChecked;
 use table::check::Checked;
 use table::lookup::Found;
 
@@ -34,6 +35,10 @@ fn tidy(image: &[u8], out: &mut [u8]) -> Checked {
     tidy::tidy::tidy(image, out)
 }
 
+fn check_journal(image: &[u8], journal: &[u8]) -> JournalChecked {
+    journal::check::check_journal(image, journal)
+}
+
 fn lane_check(image: &[u8]) -> u64 {
     lane::lane_check(image)
 }
@@ -58,6 +63,10 @@ fn lane_scan(
 
 fn lane_tidy(image: &[u8], out: &mut [u8]) -> u64 {
     lane::lane_tidy(image, out)
+}
+
+fn lane_check_journal(image: &[u8], journal: &[u8]) -> u64 {
+    lane::lane_check_journal(image, journal)
 }
 
 fn print(text: &[u8]) {
@@ -86,6 +95,13 @@ fn print_scanned(answer: Scanned) {
     }
 }
 
+fn print_journal(answer: JournalChecked) {
+    match answer {
+        JournalChecked::Events(_) => print(b"check_journal: accepted\n"),
+        JournalChecked::Refused(_, _) => print(b"check_journal: refused\n"),
+    }
+}
+
 fn print_packed(name: &[u8], answer: u64) {
     print(name);
     print(b": refused ");
@@ -93,7 +109,7 @@ fn print_packed(name: &[u8], answer: u64) {
     print(b"\n");
 }
 
-fn main() {
+fn entry_points() {
     let none = [0u8; 0];
     let mut state = [0u8; 0];
     let mut report = [0u8; 0];
@@ -107,6 +123,15 @@ fn main() {
     print_checked(b"fresh", fresh(&none, &mut state));
     print_scanned(scan(&none, &mut state, &none, &mut report, &mut journal));
     print_checked(b"tidy", tidy(&none, &mut out));
+    print_journal(check_journal(&none, &none));
+}
+
+fn exports() {
+    let none = [0u8; 0];
+    let mut state = [0u8; 0];
+    let mut report = [0u8; 0];
+    let mut journal = [0u8; 0];
+    let mut out = [0u8; 0];
     print_packed(b"lane_check", lane_check(&none));
     print_packed(b"lane_find", lane_find(&none, &none));
     print_packed(b"lane_fresh", lane_fresh(&none, &mut state));
@@ -115,4 +140,10 @@ fn main() {
         lane_scan(&none, &mut state, &none, &mut report, &mut journal),
     );
     print_packed(b"lane_tidy", lane_tidy(&none, &mut out));
+    print_packed(b"lane_check_journal", lane_check_journal(&none, &none));
+}
+
+fn main() {
+    entry_points();
+    exports();
 }

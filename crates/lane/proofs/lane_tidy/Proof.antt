@@ -1,9 +1,6 @@
 -- `lane::lane_tidy` meets its contract: the answer of tidy, packed; the buffer as tidy leaves it.
-use mathlib.Core.Path.{ap, _∙_}
 use borrow.Author.Needs.{needs}
-use Rattle.table.specs.Check.{checkedAnswer}
-use Rattle.lane.specs.Packed.{packed}
-use Rattle.lane.proofs.PackedLaws.{unpacks, tidy-packable}
+use Rattle.lane.proofs.PackedLaws.{packs, tidy-packable}
 use Rattle.lane.proofs.lane_tidy.Statement.{statement}
 use Rattle.lane.proofs.lane_tidy.Tie as tie
 
@@ -21,8 +18,8 @@ returns c =
     let made = c .before .before .before in
     let known = made .before .before .before in
     let a = known .before .args in
-    let answer = c .pack-checked .ensures ∙ ap packed (ap checkedAnswer (made .tidy .ensures .0)) in
-    (answer, (unpacks _ _ (tidy-packable (a .image .now) (a .out .now) (λ i. known .shared-slice-known .given i .fits)) answer, made .tidy .ensures .1 .1))
+    let answer = packs _ _ _ (tidy-packable (a .image .now) (a .out .now) (λ i. known .shared-slice-known .given i .fits)) (c .pack-checked .ensures) (made .tidy .ensures .1 .0) in
+    (answer .0, (answer .1, made .tidy .ensures .1 .1))
 
 pub lane-tidy-spec : {M : Type 1} → statement M
 lane-tidy-spec = tie.close (tie.spec tidy-requires pack-checked-requires same-length returns)

@@ -1,0 +1,5 @@
+pub mod Allowed
+pub mod Check
+pub mod CheckIsExact
+pub mod OpenJob
+pub mod Refusals
