@@ -2,12 +2,12 @@
 -- check or write journals.
 use Prim.Native.Nat.{ℕ, _≤_}
 use native.Mathlib.Omega.{arith}
-use mathlib.Core.Bool.{Bool, true, false, cond, not, _&&_, _||_}
+use mathlib.Core.Bool.{Bool, true, false, not, _&&_, _||_}
 use mathlib.Core.List.{List, [], _∷_}
 use mathlib.Core.Option.{Option, none, some}
-use mathlib.Core.Path.{_≡_, refl, sym, subst}
-use lib.Dec.{eqb, leb}
-use borrow.Author.Tests.{eqb-true, eqb-false, eq-eqb, ne-eqb, leb-true, le-leb, not-true}
+use mathlib.Core.Path.{_≡_, sym, subst}
+use lib.Dec.{eqb}
+use borrow.Author.Tests.{eqb-true, eqb-false, eq-eqb, ne-eqb, le-leb, not-true}
 use Rattle.membership.proofs.MembershipLaws.{within-bounds}
 use Rattle.membership.proofs.Logic.{by-test, and-left, and-right, and-join}
 use Rattle.kind.specs.Kind.{isEdge, hasAbort, hasTimeOut, isContinuous}

@@ -1,3 +1,4 @@
+pub mod AdmitLaws
 pub mod CheckIsExact
 pub mod LoopLaws
 pub mod AnswerLaws

@@ -3,7 +3,7 @@
 use Prim.Native.Nat.{ℕ}
 use mathlib.Core.List.{List, [], _∷_, _++_}
 use lib.ListN.{set, take, replicate}
-use Rattle.table.specs.Place.{Answer, value, refusal}
+use Rattle.table.specs.Place.{value, refusal}
 use Rattle.table.specs.Refusals.{Row, _gives_, AnswersAll}
 use Rattle.journal.specs.Check.{checkJournalOf, journalAnswer}
 

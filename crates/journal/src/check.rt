@@ -1,7 +1,6 @@
 // A journal judged event by event: checks 70 and 71.
-use crate::turns::OpenJob;
-use crate::turns::open_after;
 use crate::turns::takes_turn;
+use block::event::Event;
 use image::MOST_SLOTS;
 use layout::event::EVENT_BYTES;
 use layout::event::decode_event;
@@ -47,26 +46,24 @@ fn first_bad(
     requires { ⌜ length (now journal) ≡ eventLength * total ⌝ }
     ensures { λ r. ⌜ r ≡ badNumber (firstBad (blocksOf (now (image .entry))) noneOpen 0 (decodeEvents total (now (journal .entry)))) ⌝ }
 {
-    let mut jobs = [OpenJob {
-        is_open: false,
-        job: 0,
-    }; MOST_SLOTS + 1];
+    let mut opens = [false; MOST_SLOTS + 1];
+    let mut jobs = [0u64; MOST_SLOTS + 1];
     let mut i = 0;
     while i < total {
         let number = i + 1;
         let at = EVENT_BYTES * i;
         let end = at + EVENT_BYTES;
         let posted = decode_event(&journal[at..end]);
-        let position = posted.position;
-        if !is_position(position, count) {
+        if !is_position(posted.position, count) {
             return number;
         }
-        let p = position as usize;
+        let p = posted.position as usize;
         let kind = kind_at(image, slots, positions, count, p - 1);
-        if !takes_turn(kind, jobs[p], posted.event) {
+        if !takes_turn(kind, opens[p], jobs[p], posted.event) {
             return number;
         }
-        jobs[p] = open_after(posted.event);
+        opens[p] = posted.event.kind == Event::START;
+        jobs[p] = posted.event.job;
         i = number;
     }
     0

@@ -1,7 +1,7 @@
 -- The bytes that a list of scans wrote are the encoding of its journal, and its events fit their bytes. For both directions of the theorem about written journals.
 use Prim.Native.Nat.{ℕ, zero, suc, _+_, _*_, _≤_}
 use native.Mathlib.Omega.{arith}
-use mathlib.Core.List.{List, [], _++_, append-assoc}
+use mathlib.Core.List.{List, _++_, append-assoc}
 use mathlib.Core.Path.{_≡_, refl, ap, sym, _∙_, subst}
 use lib.ListN.{length, take, drop, length-append}
 use lib.Seq.{length-take-le, take-at}
@@ -22,7 +22,7 @@ use Rattle.engine.proofs.FreshLaws.{FreshMade}
 use Rattle.engine.proofs.ServedLaws.{buffersAt, outcomeAt, journal-next, count-next}
 use Rattle.engine.proofs.ScanAccepted.{verify-passes}
 use Rattle.engine.specs.Fresh.{freshOf}
-use Rattle.run.specs.Scans.{Scans, none, _andThen_, Given, FramesAreBytes, noScan, andScan, stateAfter, withEvents, journalFrom, journalOf}
+use Rattle.run.specs.Scans.{Scans, Given, FramesAreBytes, noScan, andScan, stateAfter, withEvents, journalFrom, journalOf}
 use Rattle.run.proofs.FitsLaws.{all-append}
 use Rattle.run.proofs.Projection.{eventsTo, journal-room, outcome-fits, events-next}
 use Rattle.run.proofs.ScanLaws.{Held, scanVerdict, resultBy, scan-is}

@@ -1,9 +1,9 @@
 -- The machine of one block: for each event that takes its turn, the frame entry with which a call from rest writes just that event, and the entry with which a second call settles it; with the
 -- same entry a call of a block at rest changes nothing. For the list of scans that writes a journal.
-use Prim.Native.Nat.{ℕ, zero, suc, _+_, _<_, _≤_, _^_}
+use Prim.Native.Nat.{ℕ, zero, suc, _+_, _<_, _^_}
 use native.Mathlib.Omega.{arith}
 use mathlib.Core.Bool.{Bool, true, false, cond, not, _&&_, false≢true}
-use mathlib.Core.List.{List, [], _∷_}
+use mathlib.Core.List.{[], _∷_}
 use mathlib.Core.Option.{Option, none, some}
 use mathlib.Core.Path.{_≡_, refl, ap, _∙_}
 use lib.Dec.{eqb, leb, lit<}
@@ -16,7 +16,7 @@ use Rattle.clock.specs.declared.Timer.{Timer}
 use Rattle.layout.specs.Buffer.{jobWidth}
 use Rattle.layout.proofs.Fits.{nil, cons, PieceFits, EntryFits, EventFits}
 use Rattle.block.specs.Record.{Executing, Done, Error, Aborting, Aborted, Resetting, TimedOut, freshRecord}
-use Rattle.block.specs.Event.{Start, DoneEvent, Failed, AbortedEvent, Withdrawn, emitted}
+use Rattle.block.specs.Event.{Start, DoneEvent, Failed, AbortedEvent, Withdrawn}
 use Rattle.block.specs.Entry.{Working, Complete, ErrorReply, piecesFit, entryFits}
 use Rattle.block.specs.Pass.{goOn, stop}
 use Rattle.block.specs.Dormant.{dormant}

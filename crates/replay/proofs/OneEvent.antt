@@ -20,13 +20,12 @@ use Rattle.layout.proofs.EventLaws.{at-here, at-elsewhere}
 use Rattle.block.specs.Entry.{entryFits}
 use Rattle.block.specs.Turns.{openAfter}
 use Rattle.block.specs.Call.{Outcome}
-use Rattle.block.specs.declared.event.Event.{Event}
 use Rattle.block.specs.declared.entry.Entry.{Entry}
 use Rattle.block.proofs.TurnLaws.{Turn, turn-cases}
 use Rattle.engine.specs.Fresh.{freshOf}
-use Rattle.run.specs.Scans.{Scans, Given, _andThen_, FramesAreBytes, journalOf}
+use Rattle.run.specs.Scans.{Scans, _andThen_, FramesAreBytes, journalOf}
 use Rattle.journal.specs.Check.{OpenJobs, openedBy, isGood, firstBad}
-use Rattle.journal.proofs.CheckIsExact.{GoodAt, good-at, cons-not-nil}
+use Rattle.journal.proofs.CheckIsExact.{good-at, cons-not-nil}
 use Rattle.replay.specs.Written.{NoWires, EachAccepted, andScan}
 use Rattle.replay.proofs.Moves.{atRest, holdEntry, turnEntry, calledWith, hold-call, Writes, turn-written, hold-form, turn-form, hold-fits, turn-fits}
 use Rattle.replay.proofs.OneScan.{scanWith, blocks, kindAt, recordAt, written, Scanned, one-scan}

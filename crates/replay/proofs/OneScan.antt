@@ -1,6 +1,6 @@
 -- One scan more over a table without wires, with any entries in form: it is accepted, and for each block it is the call with that block's own entry. It rests on the projection of a scan to
 -- the calls of its blocks, which holds of every kind. For the two scans of one event.
-use Prim.Native.Nat.{ℕ, suc, _*_, _≤_, _<_}
+use Prim.Native.Nat.{ℕ, suc, _*_, _<_}
 use native.Mathlib.Omega.{arith}
 use mathlib.Core.Bool.{true}
 use mathlib.Core.List.{List, [], _++_}

@@ -10,7 +10,6 @@ use Rattle.table.specs.Check.{checkOf}
 use Rattle.table.specs.Blocks.{Block, blocksOf, blockAt}
 use Rattle.table.specs.declared.check.Checked.the-variants.{Blocks}
 use Rattle.layout.specs.Buffer.{eventLength}
-use Rattle.layout.specs.EventLayout.{decodeEvents}
 use Rattle.engine.specs.Fresh.{freshOf}
 use Rattle.engine.specs.Scan.{ScanResult}
 use Rattle.engine.specs.declared.scan.Scanned.{Scanned}

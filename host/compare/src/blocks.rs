@@ -107,6 +107,15 @@ impl Blocks {
         self.in_slots(blocks.max(1), (1..=blocks as u8).collect())
     }
 
+    /// The blocks without their wires.
+    pub fn unwired(&self) -> Blocks {
+        let unwired = |block: &Block| Block {
+            wires: [Wire::NONE; 2],
+            ..*block
+        };
+        Blocks(self.0.iter().map(unwired).collect())
+    }
+
     /// A table with the blocks in any slots: in slot order, backwards or jumping about, with few spares or many.
     pub fn arranged(&self, rng: &mut Rng) -> Table {
         let blocks = self.0.len();

@@ -3,7 +3,7 @@
 
 use crate::text::{self, slice, Answer};
 use lane::ffi;
-use reference::{table, tidy as rules};
+use reference::{journal, table, tidy as rules};
 
 /// The message of a difference, with the call as a line for `replay`.
 pub(crate) fn differ(call: &str, engine: &str, reference: &str) -> String {
@@ -19,28 +19,39 @@ pub fn agreed<T>(case: u64, result: Result<T, String>) -> T {
     result.unwrap_or_else(|message| panic!("case {case}: {message}"))
 }
 
-/// The answer of both implementations to a table check.
-pub fn check(image: &[u8]) -> Result<Answer, String> {
-    let engine = ffi::check(image);
-    let reference = text::from_reference(table::check(image));
+/// What both implementations answered to a call that only reads: its word, and its slices.
+fn read_by_both(
+    word: &str,
+    slices: &[&[u8]],
+    engine: Answer,
+    reference: Result<usize, table::Refusal>,
+) -> Result<Answer, String> {
+    let reference = text::from_reference(reference);
     if engine == reference {
         return Ok(engine);
     }
-    let call = format!("check {}", slice(image));
+    let slices = slices.iter().map(|bytes| format!(" {}", slice(bytes)));
+    let call = format!("{word}{}", slices.collect::<String>());
     let (engine, reference) = (text::answer(engine), text::answer(reference));
     Err(differ(&call, &engine, &reference))
 }
 
+/// The answer of both implementations to a table check.
+pub fn check(image: &[u8]) -> Result<Answer, String> {
+    read_by_both("check", &[image], ffi::check(image), table::check(image))
+}
+
 /// The answer of both implementations to a lookup.
 pub fn find(image: &[u8], tag: &[u8]) -> Result<Answer, String> {
-    let engine = ffi::find(image, tag);
-    let reference = text::from_reference(table::find(image, tag));
-    if engine == reference {
-        return Ok(engine);
-    }
-    let call = format!("find {} {}", slice(image), slice(tag));
-    let (engine, reference) = (text::answer(engine), text::answer(reference));
-    Err(differ(&call, &engine, &reference))
+    let (engine, reference) = (ffi::find(image, tag), table::find(image, tag));
+    read_by_both("find", &[image, tag], engine, reference)
+}
+
+/// The answer of both implementations to a journal check.
+pub fn check_journal(image: &[u8], journal: &[u8]) -> Result<Answer, String> {
+    let engine = ffi::check_journal(image, journal);
+    let reference = journal::check_journal(image, journal);
+    read_by_both("check_journal", &[image, journal], engine, reference)
 }
 
 /// A call that writes one buffer, by both implementations: the answer, and the buffer as both left
@@ -79,12 +90,16 @@ pub fn run(words: &[&str]) -> Result<String, String> {
         ["find", image, tag] => {
             find(&text::parse_slice(image)?, &text::parse_slice(tag)?).map(text::answer)
         }
+        ["check_journal", image, journal] => {
+            check_journal(&text::parse_slice(image)?, &text::parse_slice(journal)?)
+                .map(text::answer)
+        }
         ["tidy", image, out] => {
             let (answer, out) = tidy(&text::parse_slice(image)?, &text::parse_slice(out)?)?;
             Ok(text::left(answer, &[&out]))
         }
         _ => Err(format!(
-            "not `check IMAGE`, `find IMAGE TAG` or `tidy IMAGE OUT`: {words:?}"
+            "not `check IMAGE`, `find IMAGE TAG`, `check_journal IMAGE JOURNAL` or `tidy IMAGE OUT`: {words:?}"
         )),
     }
 }

@@ -9,6 +9,9 @@
 //! - [`records`]: state records and frame entries, in form and out of it.
 //! - [`scans`]: lists of scans, with damage to what a scan is given.
 //! - [`scan_check`]: one fresh state or scan by each implementation, compared.
+//! - [`journals`]: journals of a table, good, damaged and foreign.
+//! - [`verdicts`]: what the rules say of a journal, counted.
+//! - [`scripts`]: lists of scans that write a given journal.
 //! - [`readings`]: the readings of calls, those out of step counted.
 //! - [`seen`]: what the accepted scans did.
 //! - [`jobs`]: the jobs of their events, counted by their form.
@@ -24,14 +27,17 @@ pub mod blocks;
 pub mod check;
 pub mod forms;
 pub mod jobs;
+pub mod journals;
 pub mod layouts;
 pub mod readings;
 pub mod records;
 pub mod rng;
 pub mod scan_check;
 pub mod scans;
+pub mod scripts;
 pub mod seen;
 pub mod tables;
 pub mod tally;
 pub mod text;
 pub mod underscores;
+pub mod verdicts;

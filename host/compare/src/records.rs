@@ -103,7 +103,7 @@ fn elapsed(rng: &mut Rng) -> u64 {
 }
 
 /// An error code of an action.
-fn code(rng: &mut Rng) -> u16 {
+pub(crate) fn code(rng: &mut Rng) -> u16 {
     match rng.below(4) {
         0 => 2,
         1 => 65_535,

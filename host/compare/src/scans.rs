@@ -68,7 +68,7 @@ pub fn table(rng: &mut Rng) -> Table {
 
 /// A sound state of a table: of blocks at any step.
 pub fn sound_state(rng: &mut Rng, table: &Table) -> Vec<u8> {
-    let kinds = table.chain.iter().map(|&slot| table.kind(slot));
+    let kinds = table.kinds().into_iter();
     kinds.flat_map(|kind| sound(rng, kind)).collect()
 }
 

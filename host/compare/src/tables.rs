@@ -280,6 +280,17 @@ impl Table {
         self.bytes(slot)[KIND]
     }
 
+    /// The kinds of its blocks, in chain order.
+    pub fn kinds(&self) -> Vec<u8> {
+        self.chain.iter().map(|&slot| self.kind(slot)).collect()
+    }
+
+    /// Whether it has a wire.
+    pub fn is_wired(&self) -> bool {
+        let wired = |&slot: &u8| [START, ABORT].map(|input| self.bytes(slot)[input]) != [0, 0];
+        self.chain.iter().any(wired)
+    }
+
     /// The length of its tidy image.
     pub fn tidy_length(&self) -> usize {
         HEADER + SLOT * self.chain.len().max(1)

@@ -19,6 +19,11 @@ pub const LOOKUP: [u32; 2] = [50, 51];
 /// The number that tidying an accepted table gives.
 pub const TIDY: u32 = 60;
 
+/// The numbers that a journal check by an accepted table gives: of a length, and of an event, which it names.
+pub const JOURNAL: [u32; 2] = [JOURNAL_LENGTH, EVENT];
+pub const JOURNAL_LENGTH: u32 = 70;
+pub const EVENT: u32 = 71;
+
 /// How often each answer was seen: accepted calls, and refusals by number and place.
 #[derive(Clone, Debug, Default)]
 pub struct Tally {

@@ -57,7 +57,7 @@ pub fn from_reference(answer: Result<usize, reference::table::Refusal>) -> Answe
         Ok(value) => Ok(value as u32),
         Err(refusal) => Err(Refusal::new(
             u32::from(refusal.number),
-            u32::from(refusal.place),
+            refusal.place as u32,
         )),
     }
 }

@@ -1,14 +1,15 @@
-//! Scans, fresh states and tidy tables given as bytes, with the bytes that they must leave, through the
-//! engine and the reference.
+//! Scans, fresh states, tidy tables and journals given as bytes, with the answers and the bytes that they must
+//! leave, through the engine and the reference.
 
 use compare::scan_check::{fresh, run};
-use compare::tally::{Tally, LOOKUP, POSITION, SCAN, SLOT, TABLE, TIDY};
+use compare::tally::{Tally, EVENT, JOURNAL, LOOKUP, POSITION, SCAN, SLOT, TABLE, TIDY};
 use compare::text::{parse_answer, parse_slice};
 use lane::RECORD_BYTES;
 
 const SCANS: &str = include_str!("../data/cases.txt");
 const READINGS: &str = include_str!("../data/scan_cases.txt");
 const TIDIES: &str = include_str!("../data/tidy_cases.txt");
+const JOURNALS: &str = include_str!("../data/journal_cases.txt");
 
 /// The words of a line before and after the equals sign.
 fn sides(line: &str) -> (Vec<&str>, &str) {
@@ -85,4 +86,13 @@ fn tidy_tables() {
     tally.expect([TIDY]);
     tally.expect_places(SLOT);
     tally.expect_places(POSITION);
+}
+
+#[test]
+fn journals() {
+    let tally = named(JOURNALS);
+    tally.expect(TABLE);
+    tally.expect(JOURNAL);
+    tally.expect_places(SLOT);
+    tally.expect_places([EVENT]);
 }

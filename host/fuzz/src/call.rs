@@ -1,7 +1,7 @@
 //! A call of an exported function.
 
 use compare::text::{parse_slice, slice};
-use reference::{scan, table, tidy};
+use reference::{journal, scan, table, tidy};
 
 /// An exported function.
 #[derive(Clone, Copy, Debug, PartialEq, Eq)]
@@ -9,16 +9,18 @@ pub enum Name {
     Check,
     Find,
     Tidy,
+    CheckJournal,
     Fresh,
     Scan,
 }
 
 impl Name {
     /// All of them, with the words and the number of slices of each.
-    const ALL: [(Name, &'static str, usize); 5] = [
+    const ALL: [(Name, &'static str, usize); 6] = [
         (Name::Check, "check", 1),
         (Name::Find, "find", 2),
         (Name::Tidy, "tidy", 2),
+        (Name::CheckJournal, "check_journal", 2),
         (Name::Fresh, "fresh", 2),
         (Name::Scan, "scan", 5),
     ];
@@ -72,6 +74,7 @@ impl Call {
             (Name::Check, [image]) => table::check(image),
             (Name::Find, [image, tag]) => table::find(image, tag),
             (Name::Tidy, [image, out]) => tidy::tidy(image, out),
+            (Name::CheckJournal, [image, journal]) => journal::check_journal(image, journal),
             (Name::Fresh, [image, state]) => scan::fresh(image, state),
             (Name::Scan, [image, state, frame, report, journal]) => {
                 scan::scan(image, state, frame, report, journal)
@@ -80,7 +83,7 @@ impl Call {
         };
         let answer = match answer {
             Ok(value) => value as u64,
-            Err(refusal) => u64::from(refusal.number) << 32 | u64::from(refusal.place),
+            Err(refusal) => u64::from(refusal.number) << 32 | refusal.place as u64,
         };
         (answer, left)
     }

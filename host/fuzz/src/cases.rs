@@ -1,18 +1,20 @@
 //! Calls to try: kept ones, new ones, and damage to them.
 
 use crate::call::{Call, Name};
+use compare::journals::{bytes, count, foreign, good, Damage};
 use compare::rng::Rng;
 use compare::scans::{sound_state, List, Wrong};
 use compare::tables::{alike, no_tag, tag, Fault, Size, Table};
 use lane::RECORD_BYTES;
 
 /// Calls kept as text, one a line: `[NAME] FUNCTION SLICE .. [= ANSWER ..]`.
-const KEPT: [&str; 5] = [
+const KEPT: [&str; 6] = [
     include_str!("../corpus.txt"),
     include_str!("../../compare/data/table_cases.txt"),
     include_str!("../../compare/data/cases.txt"),
     include_str!("../../compare/data/scan_cases.txt"),
     include_str!("../../compare/data/tidy_cases.txt"),
+    include_str!("../../compare/data/journal_cases.txt"),
 ];
 
 /// The call of a line.
@@ -53,6 +55,19 @@ fn wanted(rng: &mut Rng, table: &Table) -> Vec<u8> {
     wanted.to_vec()
 }
 
+/// A journal that the table accepts, one with damage, or a foreign one.
+fn journal(rng: &mut Rng, table: &Table) -> Vec<u8> {
+    let count = count(rng);
+    let events = good(rng, table, count);
+    let damage = rng.pick(&Damage::ALL);
+    let journal = match rng.below(8) {
+        0..=3 => None,
+        4..=6 => damage.done_to(rng, table, &events),
+        _ => Some(foreign(rng, table)),
+    };
+    journal.unwrap_or_else(|| bytes(&events))
+}
+
 /// A scan of a table in a sound state, at times with something wrong.
 fn scan(rng: &mut Rng, table: Table) -> Vec<Vec<u8>> {
     let state = sound_state(rng, &table);
@@ -73,37 +88,41 @@ fn scan(rng: &mut Rng, table: Table) -> Vec<Vec<u8>> {
 }
 
 /// The functions of new calls: a scan twice as often as each of the others.
-const NAMES: [Name; 6] = [
+const NAMES: [Name; 7] = [
     Name::Check,
     Name::Find,
     Name::Tidy,
+    Name::CheckJournal,
     Name::Fresh,
     Name::Scan,
     Name::Scan,
 ];
+
+/// What a function is given after a table, in one slice.
+fn second(rng: &mut Rng, name: Name, table: &Table) -> Vec<u8> {
+    match name {
+        Name::Find => wanted(rng, table),
+        Name::Tidy => noise(rng, table.tidy_length()),
+        Name::CheckJournal => journal(rng, table),
+        Name::Fresh => noise(rng, RECORD_BYTES * table.chain.len()),
+        Name::Check | Name::Scan => vec![],
+    }
+}
 
 /// A new call, with a table that the engine accepts or one fault in it.
 fn new(rng: &mut Rng) -> Call {
     let size = Size::any(rng);
     let mut table = Table::new(rng, size);
     let name = rng.pick(&NAMES);
-    let wanted = wanted(rng, &table);
+    let second = second(rng, name, &table);
     if name != Name::Scan && rng.one_in(4) {
         let fault = rng.pick(&Fault::ALL);
         table.damage(rng, fault);
     }
     let slices = match name {
         Name::Check => vec![table.image],
-        Name::Find => vec![table.image, wanted],
-        Name::Tidy => {
-            let out = noise(rng, table.tidy_length());
-            vec![table.image, out]
-        }
-        Name::Fresh => {
-            let state = noise(rng, RECORD_BYTES * table.chain.len());
-            vec![table.image, state]
-        }
         Name::Scan => scan(rng, table),
+        _ => vec![table.image, second],
     };
     Call { name, slices }
 }

@@ -2,7 +2,7 @@
 
 use crate::call::{Call, Left, Name};
 use crate::guard::{Guarded, Lie};
-use lane::ffi::raw::{lane_check, lane_find, lane_fresh, lane_scan, lane_tidy};
+use lane::ffi::raw::{lane_check, lane_check_journal, lane_find, lane_fresh, lane_scan, lane_tidy};
 use std::cell::Cell;
 use std::ffi::{c_int, c_void};
 use std::io::Write;
@@ -101,6 +101,7 @@ fn enter(name: Name, memory: &mut [Guarded]) -> u64 {
             Name::Check => lane_check(image, n),
             Name::Find => lane_find(image, n, second, m),
             Name::Tidy => lane_tidy(image, n, second, m),
+            Name::CheckJournal => lane_check_journal(image, n, second, m),
             Name::Fresh => lane_fresh(image, n, second, m),
             Name::Scan => lane_scan(image, n, second, m, frame, k, report, r, journal, j),
         }

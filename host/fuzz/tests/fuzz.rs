@@ -4,7 +4,7 @@
 //! that fails is printed: as a line of `corpus.txt` it is tried in every run.
 
 use compare::rng::{settings, Rng};
-use compare::tally::{Tally, LOOKUP, SCAN, TABLE, TIDY};
+use compare::tally::{Tally, JOURNAL, LOOKUP, SCAN, TABLE, TIDY};
 use fuzz::call::Call;
 use fuzz::cases::{any, kept};
 use fuzz::engine::Engine;
@@ -33,7 +33,7 @@ fn compare(engine: &mut Engine, call: &Call, tally: &mut Tally) {
 
 /// Every number of a refusal.
 fn numbers() -> impl Iterator<Item = u32> {
-    TABLE.chain(SCAN).chain(LOOKUP).chain([TIDY])
+    TABLE.chain(SCAN).chain(LOOKUP).chain([TIDY]).chain(JOURNAL)
 }
 
 #[test]

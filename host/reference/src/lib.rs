@@ -1,11 +1,12 @@
 //! A plain statement of the rules of the lane engine, written from the scope
-//! document and requests 1/14 to 5/14 of document 02 alone.
+//! document and requests 1/14 to 6/14 of document 02 alone.
 //!
 //! - [`table`]: the table image, its checks, and the lookup of a tag.
 //! - [`tidy`]: a table written anew without spare slots.
 //! - [`layout`]: the lengths, and where each field lies.
 //! - [`machine`]: one call of one block.
 //! - [`scan`]: a fresh state, and one scan over all blocks of a table.
+//! - [`journal`]: a foreign journal judged against a table.
 //!
 //! No function here allocates, and none panics, whatever the length or content
 //! of its input. All numbers are little-endian: "Values are little-endian,
@@ -13,6 +14,7 @@
 
 #![forbid(unsafe_code)]
 
+pub mod journal;
 pub mod layout;
 pub mod machine;
 pub mod scan;

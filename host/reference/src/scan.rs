@@ -26,7 +26,7 @@ fn check_state_length(table: &Table, state: &[u8]) -> Result<(), Refusal> {
 /// |---|---|---|
 fn check_records(table: &Table, state: &[u8]) -> Result<(), Refusal> {
     let (records, _) = state.as_chunks::<{ Record::SIZE }>();
-    for (((_, slot), record), position) in table.blocks().zip(records).zip(1u8..) {
+    for (((_, slot), record), position) in table.blocks().zip(records).zip(1usize..) {
         if !Record::is_sound(record, Slot::decode(slot).kind) {
             return refuse(21, position);
         }
@@ -46,7 +46,7 @@ fn check_frame(table: &Table, frame: &[u8]) -> Result<(), Refusal> {
         return refuse(30, 0);
     }
     let (entries, _) = frame.as_chunks::<{ Entry::SIZE }>();
-    for (entry, position) in entries.iter().zip(1u8..) {
+    for (entry, position) in entries.iter().zip(1usize..) {
         if !Entry::is_formed(entry) {
             return refuse(31, position);
         }

@@ -15,14 +15,17 @@ pub const HEADER_SIZE: usize = 4;
 pub const SLOT_SIZE: usize = 16;
 
 /// "A refusal is a number and a place (slot or position, 0 if none is named)."
+///
+/// Request 6/14 has a third kind of place, "the number of the first bad event,
+/// from 1".
 #[derive(Debug, Clone, Copy, PartialEq, Eq)]
 pub struct Refusal {
     pub number: u8,
-    pub place: u8,
+    pub place: usize,
 }
 
 /// The refusal with this number and place, as the answer of a check.
-pub(crate) fn refuse<T>(number: u8, place: u8) -> Result<T, Refusal> {
+pub(crate) fn refuse<T>(number: u8, place: usize) -> Result<T, Refusal> {
     Err(Refusal { number, place })
 }
 
@@ -176,6 +179,14 @@ impl<'a> Table<'a> {
         self.positions[usize::from(slot)]
     }
 
+    /// The block at a position, none where the table has no such position: "The
+    /// k-th block met has position k."
+    pub fn block(&self, position: u8) -> Option<Slot> {
+        let index = usize::from(position).checked_sub(1)?;
+        let slot = *self.order[..self.count].get(index)?;
+        Some(Slot::decode(&self.slots[usize::from(slot) - 1]))
+    }
+
     /// The bytes of the blocks' slots in chain order, each with its slot number.
     pub fn blocks(&self) -> impl Iterator<Item = (u8, &'a [u8; SLOT_SIZE])> + '_ {
         let order = self.order.iter().take(self.count);
@@ -233,7 +244,7 @@ fn walk(head: u8, slots: &[[u8; SLOT_SIZE]]) -> Result<Table<'_>, Refusal> {
         table.order[table.count] = next;
         table.count += 1;
         table.positions[usize::from(next)] = table.count as u8;
-        holder = next;
+        holder = usize::from(next);
         next = Slot::decode(&slots[usize::from(next) - 1]).next;
     }
     Ok(table)
@@ -271,20 +282,20 @@ fn are_wires(table: &Table, block: &Slot) -> bool {
 fn records(table: &Table) -> Result<(), Refusal> {
     let mut tags = [0u64; MAX_SLOTS];
     for (index, (slot, bytes)) in table.blocks().enumerate() {
-        let block = Slot::decode(bytes);
+        let (block, place) = (Slot::decode(bytes), usize::from(slot));
         if !is_kind(block.kind) || block.zero != [0, 0] {
-            return refuse(7, slot);
+            return refuse(7, place);
         }
         if !is_tag(&block.tag) {
-            return refuse(8, slot);
+            return refuse(8, place);
         }
         let tag = u64::from_le_bytes(block.tag);
         if tags[..index].contains(&tag) {
-            return refuse(9, slot);
+            return refuse(9, place);
         }
         tags[index] = tag;
         if !are_wires(table, &block) {
-            return refuse(10, slot);
+            return refuse(10, place);
         }
     }
     Ok(())
@@ -297,7 +308,7 @@ fn records(table: &Table) -> Result<(), Refusal> {
 fn spares(table: &Table) -> Result<(), Refusal> {
     for (bytes, slot) in table.slots.iter().zip(1u8..) {
         if table.position(slot) == 0 && *bytes != [0; SLOT_SIZE] {
-            return refuse(11, slot);
+            return refuse(11, usize::from(slot));
         }
     }
     Ok(())

@@ -11,7 +11,7 @@ use reference::table::{check, Refusal, HEADER_SIZE, SLOT_SIZE};
 /// The least bytes of a journal, a block.
 const EVENTS_SIZE: usize = Events::MAX * Event::SIZE;
 
-fn no<T>(number: u8, place: u8) -> Result<T, Refusal> {
+fn no<T>(number: u8, place: usize) -> Result<T, Refusal> {
     Err(Refusal { number, place })
 }
 
@@ -331,7 +331,7 @@ impl Buffers {
         )
     }
 
-    fn refused(&mut self, number: u8, place: u8) {
+    fn refused(&mut self, number: u8, place: usize) {
         let before = (
             self.state.clone(),
             self.report.clone(),

@@ -3,6 +3,7 @@
 //!     cargo run -p compare --bin replay -- check xIMAGE
 //!     cargo run -p compare --bin replay -- find xIMAGE xTAG
 //!     cargo run -p compare --bin replay -- tidy xIMAGE xOUT
+//!     cargo run -p compare --bin replay -- check_journal xIMAGE xJOURNAL
 //!     cargo run -p compare --bin replay -- fresh xIMAGE xSTATE
 //!     cargo run -p compare --bin replay -- scan xIMAGE xSTATE xFRAME xREPORT xJOURNAL
 

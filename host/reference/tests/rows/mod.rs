@@ -28,6 +28,6 @@ pub fn row(kind: u8, next: u8, tag: &'static [u8; 8]) -> Row {
     (kind, next, [0, 0], [0, 0], tag)
 }
 
-pub fn no<T>(number: u8, place: u8) -> Result<T, Refusal> {
+pub fn no<T>(number: u8, place: usize) -> Result<T, Refusal> {
     Err(Refusal { number, place })
 }
