@@ -1,5 +1,6 @@
 /* A host box of a small gate: five lanes, eight scans and one that is turned back. It prints its story first. Every
- * scan runs over the table as it was edited and over the same table tidied: both give the same.
+ * scan runs over the table as it was edited and over the same table tidied: both give the same. At the end the
+ * journal of all scans is checked as one from another maker's box would be.
  *
  * Build at the root of the repository, after `rt staticlib lane`:
  *     gcc -std=c99 -Wall -Wextra -Iinclude examples/gate_host.c target/staticlib/liblane.a -o target/gate_host
@@ -269,10 +270,10 @@ static void print_effects(const struct box *box, uint32_t position)
            (unsigned long long)lane.job);
 }
 
-static void print_journal(const struct logged *log, size_t events)
+static void print_journal(const struct logged *log, uint32_t events)
 {
     printf("\nJournal\nscan  lane     event       code         truck\n");
-    for (size_t i = 0; i < events; i++) {
+    for (uint32_t i = 0; i < events; i++) {
         const struct lane_event *event = &log[i].event;
         printf("%4d  %-8s %-9s %6u %13llu\n", log[i].scan, blocks[event->position - 1].name,
                event_names[event->kind], (unsigned)event->code, (unsigned long long)event->job);
@@ -376,7 +377,7 @@ static void run_bad_scan(struct box *box)
 }
 
 /* Runs one scan of the story and prints it: the events that it wrote, added to the log. */
-static size_t run_story(struct box *box, int scan, struct logged *log)
+static uint32_t run_story(struct box *box, int scan, struct logged *log)
 {
     uint32_t clock = FIRST_CLOCK + PERIOD * (uint32_t)(scan - 1);
     for (uint32_t i = 0; i < LANES; i++)
@@ -395,11 +396,64 @@ static size_t run_story(struct box *box, int scan, struct logged *log)
     return events;
 }
 
+/* Checks a journal against the table; against the tidy one the answer is the same. */
+static uint64_t check_journal(const struct box *box, const uint8_t *journal, size_t journal_len)
+{
+    uint64_t answer = lane_check_journal(box->image, sizeof box->image, journal, journal_len);
+    expect(lane_check_journal(box->tidy, sizeof box->tidy, journal, journal_len) == answer,
+           "the answer about a journal over the tidy table");
+    return answer;
+}
+
+/* The number of the first event that ends a job of a truck, that of the last event if none does. */
+static uint32_t finish_of(const uint8_t *journal, uint32_t events, uint64_t truck)
+{
+    for (uint32_t number = 1; number < events; number++) {
+        struct lane_event event = lane_get_event(journal, number);
+        if (event.kind != LANE_EVENT_START && event.job == truck)
+            return number;
+    }
+    return events;
+}
+
+/* A job that ends with another truck is refused, though the two numbers have the same low four bytes. */
+static void check_wrong_truck(const struct box *box, uint8_t *journal, uint32_t events)
+{
+    uint32_t number = finish_of(journal, events, NEXT_TRUCK);
+    struct lane_event event = lane_get_event(journal, number);
+    event.job = TRUCK;
+    lane_put_event(journal, number, &event);
+    uint64_t answer = check_journal(box, journal, lane_journal_bytes(events));
+    expect(lane_refusal_number(answer) == LANE_REFUSED_EVENT &&
+               lane_refusal_place_kind(answer) == LANE_PLACE_EVENT && lane_refusal_place(answer) == number,
+           "the event with the wrong truck is refused");
+    printf("With truck %u at the end of a job of %llu, which has the same low four bytes:\n", TRUCK,
+           (unsigned long long)NEXT_TRUCK);
+    print_refusal(stdout, "journal", answer);
+}
+
+/* The journal of all scans, as bytes, is accepted; cut short by a byte it is not. */
+static void check_journals(const struct box *box, const struct logged *log, uint32_t events)
+{
+    static uint8_t journal[2 * LANE_EVENT_BYTES * LANES * SCANS];
+    for (uint32_t i = 0; i < events; i++)
+        lane_put_event(journal, i + 1, &log[i].event);
+    uint64_t answer = check_journal(box, journal, lane_journal_bytes(events));
+    expect(accepted("lane_check_journal", answer) == events, "the number of all events");
+    printf("\nThe journal, handed over as bytes and checked against the table: %u events.\n", (unsigned)events);
+
+    answer = check_journal(box, journal, lane_journal_bytes(events) - 1);
+    expect(lane_refusal_number(answer) == LANE_REFUSED_EVENTS_LENGTH, "a journal one byte short");
+    printf("Without its last byte:\n");
+    print_refusal(stdout, "journal", answer);
+    check_wrong_truck(box, journal, events);
+}
+
 int main(void)
 {
     static struct box box;
     static struct logged log[2 * LANES * SCANS];
-    size_t events = 0;
+    uint32_t events = 0;
 
     print_story();
     write_table(box.image);
@@ -414,5 +468,6 @@ int main(void)
         events += run_story(&box, scan, log + events);
     print_journal(log, events);
     run_bad_scan(&box);
+    check_journals(&box, log, events);
     return EXIT_SUCCESS;
 }

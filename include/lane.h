@@ -2,8 +2,8 @@
  *
  * Slices. Every argument is a slice: a pointer to its first byte, and its length in bytes. A slice may
  * have any length and any content; an empty one may be (NULL, 0). Numbers in slices are little-endian.
- * A slice lent for writing (state, report, journal, out) shares no byte with another slice of the call: all
- * that the engine promises rests on that. No alignment is asked. The engine has no heap, no static data
+ * A slice lent for writing (state, report, out, the journal of a scan) shares no byte with another slice of the
+ * call: all that the engine promises rests on that. No alignment is asked. The engine has no heap, no static data
  * and no locks, so calls over different buffers may run at once. Of the C library the archive needs memset
  * only; the functions of this header need memcpy and strlen too.
  *
@@ -13,8 +13,9 @@
  *
  * Answers. A call answers one number. Accepted, it is a value below 2^32; refused, it is
  * number * 2^32 + place. The number, LANE_REFUSED_.., says which check failed, the place at which slot of
- * the table or at which position of the chain (both from 1) it failed; 0 names none. The functions after
- * the entry points take an answer apart. Checks run in the order of their numbers, but the chain's blocks
+ * the table, position of the chain or event of a journal (all from 1) it failed; 0 names none. A value or a
+ * place above 2^32 - 1, which only a journal of 48 GiB and more can have, is given as 2^32 - 1. The functions
+ * after the entry points take an answer apart. Checks run in the order of their numbers, but the chain's blocks
  * are checked in order, each through 7 to 10 before the next; the first check that fails is given. A
  * refused call has written nothing.
  *
@@ -36,7 +37,7 @@
 #define LANE_ABI 2
 
 /* The most stack that a call takes, rounded up. */
-#define LANE_STACK_BYTES 1024
+#define LANE_STACK_BYTES 2048
 
 /* Lengths in bytes. */
 #define LANE_HEADER_BYTES 4  /* header of a table */
@@ -127,7 +128,8 @@ enum {
     LANE_AT_REPORT_JOB = 8     /* 8  the job */
 };
 
-/* A journal event. Those of one scan stand one after the other, in the order of the calls. */
+/* A journal event. Those of one scan stand one after the other, in the order of the calls; the journals of
+ * several scans are joined in the order of the scans. */
 enum {
     LANE_AT_EVENT_KIND = 0,     /* 1  LANE_EVENT_.. */
     LANE_AT_EVENT_POSITION = 1, /* 1  the block's position, from 1 */
@@ -226,14 +228,17 @@ enum {
     LANE_REFUSED_JOURNAL_LENGTH = 41,
     LANE_REFUSED_LOOKUP_FORM = 50,
     LANE_REFUSED_LOOKUP_ABSENT = 51,
-    LANE_REFUSED_TIDY_LENGTH = 60
+    LANE_REFUSED_TIDY_LENGTH = 60,
+    LANE_REFUSED_EVENTS_LENGTH = 70,
+    LANE_REFUSED_EVENT = 71          /* the first such event */
 };
 
 /* What the place of a refusal is. A later header may have more of them. */
 enum lane_place {
-    LANE_PLACE_NONE = 0,    /* none is named */
-    LANE_PLACE_SLOT = 1,    /* a slot of the table, from 1 */
-    LANE_PLACE_POSITION = 2 /* a position of the chain, from 1 */
+    LANE_PLACE_NONE = 0,     /* none is named */
+    LANE_PLACE_SLOT = 1,     /* a slot of the table, from 1 */
+    LANE_PLACE_POSITION = 2, /* a position of the chain, from 1 */
+    LANE_PLACE_EVENT = 3     /* an event of a journal, from 1; 2^32 - 1 for every later one too */
 };
 
 /* The error code of a job that was not over within its time-out. Other codes are those of the replies. */
@@ -267,10 +272,19 @@ uint64_t lane_find(const uint8_t *image, size_t image_len, const uint8_t *tag, s
 /* Writes a table anew, tidy: its blocks in chain order in slots 1, 2, 3 and on, head 1, the wires renumbered and
  * their codes kept, no spare slots; of a table of no blocks, one zero slot and head 0. Answers the number of
  * blocks. The lent buffer has lane_tidy_bytes(blocks) bytes; lane_check answers the same number of blocks. Over
- * the tidy table lane_fresh, lane_scan and lane_find do the same as over the one that was given, with the same
- * states and frames: a host may put it in that one's place between two scans. The blocks have other slots, so
- * lane_slot_at and lane_get_slot give something else. Refusals 1 to 11, 60. */
+ * the tidy table lane_fresh, lane_scan, lane_find and lane_check_journal do the same as over the one that was
+ * given, with the same states, frames and journals: a host may put it in that one's place between two scans. The
+ * blocks have other slots, so lane_slot_at and lane_get_slot give something else. Refusals 1 to 11, 60. */
 uint64_t lane_tidy(const uint8_t *image, size_t image_len, uint8_t *out, size_t out_len);
+
+/* Checks a journal against a table, such as one from another maker's box: the number of its events, 0 if it is
+ * empty. Good is an event with a kind of LANE_EVENT_.. and a position of the table, in its block's turn: a start
+ * where no job is open, a finish where one is, with its start's job in all eight bytes. Aborted stands only on
+ * kinds with A, withdrawn only on level blocks, done not on continuous ones. The code of a failed job is nonzero,
+ * and LANE_CODE_TIME_OUT only on kinds with TO; every other code is 0. At the end jobs may be open. What a list of
+ * scans from a fresh state writes, joined in order, is accepted; and of a table without wires each accepted
+ * journal is what some such list writes. Refusals 1 to 11, 70, 71. Only reads. */
+uint64_t lane_check_journal(const uint8_t *image, size_t image_len, const uint8_t *journal, size_t journal_len);
 
 /* Whether the call was accepted: 1 or 0. */
 static inline int lane_is_accepted(uint64_t answer) { return answer >> 32 == 0; }
@@ -302,6 +316,7 @@ static inline enum lane_place lane_refusal_place_kind(uint64_t answer)
     case LANE_REFUSED_SPARE: return LANE_PLACE_SLOT;
     case LANE_REFUSED_STATE_UNSOUND:
     case LANE_REFUSED_FRAME_FORM: return LANE_PLACE_POSITION;
+    case LANE_REFUSED_EVENT: return LANE_PLACE_EVENT;
     default: return LANE_PLACE_NONE;
     }
 }
@@ -312,11 +327,12 @@ static inline const char *lane_place_text(enum lane_place place)
     switch (place) {
     case LANE_PLACE_SLOT: return "slot";
     case LANE_PLACE_POSITION: return "position";
+    case LANE_PLACE_EVENT: return "event";
     default: return "";
     }
 }
 
-/* Why a call was refused, in words; "it" is the slot or the block that the place names. */
+/* Why a call was refused, in words; "it" is the slot, the block or the event that the place names. */
 static inline const char *lane_refusal_text(uint64_t answer)
 {
     switch (lane_refusal_number(answer)) {
@@ -351,6 +367,11 @@ static inline const char *lane_refusal_text(uint64_t answer)
     case LANE_REFUSED_LOOKUP_ABSENT: return "no block of the table has this tag";
     case LANE_REFUSED_TIDY_LENGTH:
         return "the lent table's length is not 4 bytes and 16 a block, or 20 of no blocks";
+    case LANE_REFUSED_EVENTS_LENGTH: return "the journal's length is not a multiple of an event's 12 bytes";
+    case LANE_REFUSED_EVENT:
+        return "its kind is not 1 to 5, its position is not in the table, it is a start where a job is open or "
+               "a finish where none is, its job is not its start's, its block's kind has no such finish, or its "
+               "code is out of form";
     default: return "no check has this number";
     }
 }
@@ -483,6 +504,9 @@ static inline size_t lane_tidy_bytes(uint32_t blocks)
 {
     return LANE_HEADER_BYTES + (size_t)LANE_SLOT_BYTES * (blocks == 0 ? 1 : blocks);
 }
+
+/* The length of a journal of so many events. */
+static inline size_t lane_journal_bytes(uint32_t events) { return (size_t)LANE_EVENT_BYTES * events; }
 
 /* The slot of the block at a position of a table that lane_check accepted, 0 if the chain has no such
  * position. Positions count along the chain, which may jump about among the slots: a position is no slot. */
@@ -643,7 +667,7 @@ static inline void lane_put_report(uint8_t *report, uint32_t position, const str
     lane_put64(to + LANE_AT_REPORT_JOB, put->job);
 }
 
-/* The number counts the events of a journal from 1, up to what its scan answered. */
+/* The number counts the events of a journal from 1, up to what its scan or its check answered. */
 static inline struct lane_event lane_get_event(const uint8_t *journal, uint32_t number)
 {
     const uint8_t *from = journal + (size_t)LANE_EVENT_BYTES * (number - 1);

@@ -8,6 +8,8 @@
 uint64_t baseline_check(const uint8_t *image, size_t image_len);
 uint64_t baseline_find(const uint8_t *image, size_t image_len, const uint8_t *tag, size_t tag_len);
 uint64_t baseline_tidy(const uint8_t *image, size_t image_len, uint8_t *out, size_t out_len);
+uint64_t baseline_check_journal(const uint8_t *image, size_t image_len, const uint8_t *journal,
+                                size_t journal_len);
 uint64_t baseline_fresh(const uint8_t *image, size_t image_len, uint8_t *state, size_t state_len);
 uint64_t baseline_scan(const uint8_t *image, size_t image_len, uint8_t *state, size_t state_len,
                        const uint8_t *frame, size_t frame_len, uint8_t *report, size_t report_len,
@@ -188,6 +190,55 @@ uint64_t baseline_tidy(const uint8_t *image, size_t image_len, uint8_t *out, siz
         to[4] = t.position[to[4]];
     }
     return t.count;
+}
+
+/* Whether a block of a kind can write an event with a code. */
+static int is_event(unsigned kind, unsigned event, unsigned code)
+{
+    switch (event) {
+    case 1:
+        return code == 0;
+    case 2:
+        return code == 0 && !continuous(kind);
+    case 3:
+        return code != 0 && (code != 1 || has_time_out(kind));
+    case 4:
+        return code == 0 && has_abort(kind);
+    case 5:
+        return code == 0 && !edge(kind);
+    default:
+        return 0;
+    }
+}
+
+/* A number of events as an answer holds it. */
+static uint32_t saturate(size_t n) { return n < UINT32_MAX ? (uint32_t)n : UINT32_MAX; }
+
+uint64_t baseline_check_journal(const uint8_t *image, size_t image_len, const uint8_t *journal,
+                                size_t journal_len)
+{
+    struct table t;
+    uint8_t is_open[64] = {0};
+    uint64_t jobs[64];
+    uint64_t refused = read_table(&t, image, image_len);
+    if (refused)
+        return refused;
+    if (journal_len % EVENT != 0)
+        return refuse(70, 0);
+    size_t events = journal_len / EVENT;
+    for (size_t i = 0; i < events; i++) {
+        const uint8_t *e = journal + EVENT * i;
+        unsigned block = e[1] - 1u;
+        if (block >= t.count || !is_event(slot_at(&t, t.order[block])[0], e[0], get16(e + 2)))
+            return refuse(71, saturate(i + 1));
+        uint64_t job = get64(e + EVENT_JOB);
+        int start = e[0] == 1;
+        if (start == is_open[block] || (!start && job != jobs[block]))
+            return refuse(71, saturate(i + 1));
+        is_open[block] = (uint8_t)start;
+        jobs[block] = job;
+    }
+    return saturate(events);
 }
 
 uint64_t baseline_fresh(const uint8_t *image, size_t image_len, uint8_t *state, size_t state_len)

@@ -6,6 +6,12 @@ extern "C" {
     fn baseline_check(image: *const u8, image_len: usize) -> u64;
     fn baseline_find(image: *const u8, image_len: usize, tag: *const u8, tag_len: usize) -> u64;
     fn baseline_tidy(image: *const u8, image_len: usize, out: *mut u8, out_len: usize) -> u64;
+    fn baseline_check_journal(
+        image: *const u8,
+        image_len: usize,
+        journal: *const u8,
+        journal_len: usize,
+    ) -> u64;
     fn baseline_scan(
         image: *const u8,
         image_len: usize,
@@ -34,4 +40,9 @@ pub fn find(image: &[u8], tag: &[u8]) -> u64 {
 pub fn tidy(image: &[u8], out: &mut [u8]) -> u64 {
     // SAFETY: pointers and lengths are those of borrowed slices, of which the written one is borrowed as mutable.
     unsafe { baseline_tidy(image.as_ptr(), image.len(), out.as_mut_ptr(), out.len()) }
+}
+
+pub fn check_journal(image: &[u8], journal: &[u8]) -> u64 {
+    // SAFETY: pointers and lengths are those of borrowed slices.
+    unsafe { baseline_check_journal(image.as_ptr(), image.len(), journal.as_ptr(), journal.len()) }
 }

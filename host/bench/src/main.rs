@@ -14,6 +14,7 @@
 mod baseline;
 mod builds;
 mod calls;
+mod journal;
 mod scan;
 mod table;
 mod timing;
@@ -27,5 +28,6 @@ fn main() -> ExitCode {
     }
     table::run();
     scan::run();
+    journal::run();
     ExitCode::SUCCESS
 }

@@ -1,7 +1,7 @@
 //! A table that the engine has accepted.
 
 use crate::offset::{header, slot};
-use crate::{ffi, Position, Refusal, Tag, HEADER_BYTES, SLOT_BYTES};
+use crate::{ffi, Position, Refusal, Tag, EVENT_BYTES, HEADER_BYTES, SLOT_BYTES};
 
 /// The engine over one accepted table, of which it keeps a copy.
 ///
@@ -95,8 +95,8 @@ impl Engine {
     /// The engine over the same table written anew: the blocks in chain order in slots 1, 2, 3 and on, wires
     /// renumbered, no spare slots; of a table of no blocks, one zero slot.
     ///
-    /// Fresh states, scans and positions are the same over both, so that a state goes on under either; what
-    /// [`show`](Engine::show) hands back is not.
+    /// Fresh states, scans, positions and the check of a journal are the same over both, so that a state goes on
+    /// under either; what [`show`](Engine::show) hands back is not.
     ///
     /// ```
     /// use lane::{image, Block, Engine, Flag, Kind, Wire};
@@ -120,6 +120,48 @@ impl Engine {
         debug_assert!(written.is_ok(), "an accepted table has a tidy: {written:?}");
         let blocks = self.blocks;
         Engine { image, blocks }
+    }
+
+    /// Checks a journal against the table, such as one from another maker's box: the number of its events.
+    ///
+    /// The journal is the [bytes](crate::Event::encode) of its events, one after the other; several scans'
+    /// [journals](crate::Journal::as_bytes) are joined in the order of the scans. Each block's events take turns,
+    /// a start and then a finish with the same job; every finish and every code is one that a block of its kind
+    /// can have. At the end jobs may be open.
+    ///
+    /// What a list of scans from a fresh state writes is accepted; and of a table without wires each accepted
+    /// journal is what some such list writes.
+    ///
+    /// ```
+    /// use lane::{image, Block, Engine, Event, EventKind, Kind, Place};
+    ///
+    /// let tag = "LANE0".parse()?;
+    /// let engine = Engine::new(&image(&[Block::new(Kind::ETrigTo, tag)]))?;
+    /// let start = Event {
+    ///     kind: EventKind::Start,
+    ///     position: engine.find(tag)?,
+    ///     code: 0,
+    ///     job: (1 << 40) + 7,
+    /// };
+    /// let failed = Event { kind: EventKind::Failed, code: 1, ..start };
+    /// let journal = [start, failed, start].map(|event| event.encode()).concat();
+    /// assert_eq!(engine.check_journal(&journal), Ok(3));
+    ///
+    /// // A finish whose job differs in its high half, and a journal cut short.
+    /// let other = Event { job: 7, ..failed };
+    /// let wrong = [start, other, start].map(|event| event.encode()).concat();
+    /// let refusal = engine.check_journal(&wrong).unwrap_err();
+    /// assert_eq!((refusal.number(), refusal.place()), (71, Place::Event(2)));
+    /// assert_eq!(engine.check_journal(&journal[1..]).unwrap_err().number(), 70);
+    /// # Ok::<(), Box<dyn std::error::Error>>(())
+    /// ```
+    ///
+    /// # Errors
+    /// 70 if the length is not a multiple of an event's 12 bytes, 71 with the number of the first bad event.
+    pub fn check_journal(&self, journal: &[u8]) -> Result<usize, Refusal> {
+        // What the archive answers stops at 2^32 - 1; the number of events does not.
+        ffi::check_journal(&self.image, journal)?;
+        Ok(journal.len() / EVENT_BYTES)
     }
 
     /// The slot of the block at a position of the chain, by its links.

@@ -3,7 +3,7 @@
 //! The engine is an archive of C functions over byte slices. This crate gives its buffers types:
 //!
 //! - [`Engine`] holds a table that the engine has accepted, finds and shows tags, writes the table anew, makes
-//!   fresh states and runs scans.
+//!   fresh states, runs scans and checks journals from elsewhere.
 //! - [`Block`], [`Kind`], [`Tag`], [`Wire`] and [`image`] write a table.
 //! - [`Position`] is where a block stands in the chain; all buffers go by it.
 //! - [`State`], [`Frame`], [`Report`] and [`Journal`] are the buffers of a scan; [`Record`], [`Entry`],
@@ -61,4 +61,4 @@ pub use table::{HEADER_BYTES, MAX_BLOCKS, SLOT_BYTES, TAG_BYTES};
 pub const ABI: u32 = 2;
 
 /// The most stack that a call takes, rounded up, in bytes, as the C header says.
-pub const STACK_BYTES: u64 = 1024;
+pub const STACK_BYTES: u64 = 2048;

@@ -27,12 +27,14 @@ pub struct Refusal {
 #[derive(Clone, Copy, Debug, PartialEq, Eq, Hash)]
 #[non_exhaustive]
 pub enum Place {
-    /// The check names no slot or position.
+    /// The check names no slot, position or event.
     Unnamed,
     /// A slot of the table image, from 1.
     Slot(u8),
     /// A block by its position in the chain.
     Position(Position),
+    /// An event of a journal by its number, from 1; 2^32 - 1 stands for every greater number too.
+    Event(u32),
 }
 
 impl Refusal {
@@ -46,17 +48,18 @@ impl Refusal {
         self.number
     }
 
-    /// The number of the slot or position, 0 if none is named.
+    /// The number of the slot, position or event, 0 if none is named.
     pub const fn place_number(self) -> u32 {
         self.place
     }
 
-    /// The place, by what the check counts: slots of the table, or positions of the chain.
+    /// The place, by what the check counts: slots of the table, positions of the chain, or events of a journal.
     pub const fn place(self) -> Place {
         let place = self.place as usize;
         match (self.number, Position::new(place)) {
             (5..=11, _) if 1 <= place && place <= MAX_BLOCKS => Place::Slot(place as u8),
             (21 | 31, Some(position)) => Place::Position(position),
+            (71, _) if 1 <= place => Place::Event(self.place),
             _ => Place::Unnamed,
         }
     }
@@ -94,6 +97,13 @@ impl Refusal {
             }
             (51, _) => "no block of the table has this tag",
             (60, _) => "the lent table's length is not 4 bytes and 16 a block, or 20 of no blocks",
+            (70, _) => "the journal's length is not a multiple of an event's 12 bytes",
+            (71, _) => {
+                "its kind is not 1 to 5, its position is not in the table, \
+                 it is a start where a job is open or a finish where none is, \
+                 its job is not its start's, its block's kind has no such finish, \
+                 or its code is out of form"
+            }
             _ => "no check has this number",
         }
     }
@@ -105,6 +115,7 @@ impl fmt::Display for Place {
             Place::Unnamed => f.write_str("no named place"),
             Place::Slot(slot) => write!(f, "slot {slot}"),
             Place::Position(position) => write!(f, "position {position}"),
+            Place::Event(number) => write!(f, "event {number}"),
         }
     }
 }

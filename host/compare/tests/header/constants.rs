@@ -321,9 +321,12 @@ pub fn refusals() -> Numbers {
         ("REFUSED_LOOKUP_FORM", 50),
         ("REFUSED_LOOKUP_ABSENT", 51),
         ("REFUSED_TIDY_LENGTH", 60),
+        ("REFUSED_EVENTS_LENGTH", 70),
+        ("REFUSED_EVENT", 71),
         ("PLACE_NONE", 0),
         ("PLACE_SLOT", 1),
         ("PLACE_POSITION", 2),
+        ("PLACE_EVENT", 3),
     ]
 }
 

@@ -4,6 +4,7 @@
  *   chain HEX                                    the slots at positions 0 to 65 of an image
  *   tag NAME                                     whether the name fits, and its tag
  *   tidy BLOCKS                                  the length of the tidy table of so many blocks
+ *   journal EVENTS                               the length of a journal of so many events
  *   slot|record|entry|report|event HEX           the fields of a part, and the bytes put back
  */
 
@@ -90,6 +91,14 @@ static void show_tidy(const char *rest)
     printf("%lu\n", (unsigned long)lane_tidy_bytes(blocks));
 }
 
+static void show_journal(const char *rest)
+{
+    uint32_t events = 0;
+    if (sscanf(rest, "%" SCNu32, &events) != 1)
+        fail("journal EVENTS");
+    printf("%lu\n", (unsigned long)lane_journal_bytes(events));
+}
+
 static void show_slot(const char *hex)
 {
     parse(hex, from + LANE_HEADER_BYTES + LANE_SLOT_BYTES);
@@ -155,9 +164,10 @@ int main(void)
     static const struct {
         const char *name;
         void (*show)(const char *rest);
-    } shows[] = {{"answer", show_answer}, {"chain", show_chain},   {"tag", show_tag},
-                 {"tidy", show_tidy},     {"slot", show_slot},     {"record", show_record},
-                 {"entry", show_entry},   {"report", show_report}, {"event", show_event}};
+    } shows[] = {{"answer", show_answer}, {"chain", show_chain},     {"tag", show_tag},
+                 {"tidy", show_tidy},     {"journal", show_journal}, {"slot", show_slot},
+                 {"record", show_record}, {"entry", show_entry},     {"report", show_report},
+                 {"event", show_event}};
     static char line[2 * LONGEST + 16];
     print_constants();
     printf("\n");

@@ -1,5 +1,6 @@
 //! The C header is held to the binding: every constant that it defines, what its functions say of an answer,
-//! the slot of each position, the tag of a name, and every field that its readers and writers read and write.
+//! the slot of each position, the tag of a name, the length of a table and of a journal, and every field that its
+//! readers and writers read and write.
 //! What it says of the archive is held to the archive: its stack, what it needs, and that it has no data that
 //! changes.
 //!
@@ -11,7 +12,7 @@ mod parts;
 use compare::rng::{settings, Rng};
 use compare::tables::{Size, Table};
 use compare::text::slice;
-use lane::{Place, Refusal, Tag, HEADER_BYTES, MAX_BLOCKS, SLOT_BYTES, TAG_BYTES};
+use lane::{Place, Refusal, Tag, EVENT_BYTES, HEADER_BYTES, MAX_BLOCKS, SLOT_BYTES, TAG_BYTES};
 use std::collections::BTreeMap;
 use std::env;
 use std::fs::{self, File};
@@ -106,26 +107,29 @@ fn expect(test: &str, cases: Vec<(String, String)>) {
     }
 }
 
-/// The number, the place, its kind and the sentence of every refusal, and of numbers that are none.
+/// The line that has the header take an answer apart, and what it must say by the binding.
+fn answer((number, place): (u32, u32)) -> (String, String) {
+    let refusal = Refusal::new(number, place);
+    let kind = match refusal.place() {
+        Place::Slot(_) => "slot",
+        Place::Position(_) => "position",
+        Place::Event(_) => "event",
+        _ => "",
+    };
+    let expected = match number {
+        0 => format!("1 {place} 0 0 [] the call was accepted"),
+        _ => format!("0 0 {number} {place} [{kind}] {}", refusal.reason()),
+    };
+    (format!("answer {number} {place}"), expected)
+}
+
+/// The number, the place, its kind and the sentence of every refusal, and of numbers that are none; the greatest
+/// value of an accepted call, and the greatest number of an event.
 #[test]
 fn answers() {
-    let mut cases = Vec::new();
-    for number in 0..=120 {
-        for place in [0, 1, 64] {
-            let refusal = Refusal::new(number, place);
-            let kind = match refusal.place() {
-                Place::Slot(_) => "slot",
-                Place::Position(_) => "position",
-                _ => "",
-            };
-            let expected = match number {
-                0 => format!("1 {place} 0 0 [] the call was accepted"),
-                _ => format!("0 0 {number} {place} [{kind}] {}", refusal.reason()),
-            };
-            cases.push((format!("answer {number} {place}"), expected));
-        }
-    }
-    expect("answers", cases);
+    let answers = (0..=120).flat_map(|number| [0, 1, 64].map(|place| (number, place)));
+    let answers = answers.chain([(0, u32::MAX), (71, u32::MAX)]);
+    expect("answers", answers.map(answer).collect());
     let known = |number: &u32| Refusal::new(*number, 0).reason() != Refusal::new(999, 0).reason();
     let known: Vec<u64> = (1..=120).filter(known).map(u64::from).collect();
     let named = constants::refusals()
@@ -180,6 +184,16 @@ fn tags_of_names() {
         )
     });
     expect("tags", cases.into());
+}
+
+/// The length of a journal of few events and of the most that an answer can count.
+#[test]
+fn journal_lengths() {
+    let cases = [0, 1, 2, 1_000, u32::MAX].map(|events| {
+        let length = EVENT_BYTES as u64 * u64::from(events);
+        (format!("journal {events}"), length.to_string())
+    });
+    expect("journal", cases.into());
 }
 
 /// The length of the tidy table of any number of blocks.

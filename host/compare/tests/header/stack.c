@@ -1,5 +1,6 @@
 /* Measures the stack that the calls of the engine take: fills a stack with one byte value, runs a call on it and
- * looks how deep it was changed. Prints the deepest of all calls over 64 blocks that start, work and finish. */
+ * looks how deep it was changed. Prints the deepest of all calls over 64 blocks that start, work and finish, and of
+ * the check of the journal that all scans wrote. */
 
 #define _GNU_SOURCE
 #include "lane.h"
@@ -13,6 +14,8 @@ enum { BLOCKS = LANE_MAX_BLOCKS, SCANS = 500, FILL = 0xa5 };
 static uint8_t image[LANE_HEADER_BYTES + LANE_SLOT_BYTES * BLOCKS], out[sizeof image];
 static uint8_t state[LANE_RECORD_BYTES * BLOCKS], frame[LANE_ENTRY_BYTES * BLOCKS];
 static uint8_t report[LANE_REPORT_BYTES * BLOCKS], journal[2 * LANE_EVENT_BYTES * BLOCKS];
+static uint8_t joined[SCANS * sizeof journal]; /* the journals of all scans */
+static uint32_t events;                        /* how many they are */
 
 static uint8_t stack[1 << 16];
 static uint8_t *top; /* the frame of the function that makes the call */
@@ -48,6 +51,12 @@ static void scan(void)
     top = __builtin_frame_address(0);
     answer = lane_scan(image, sizeof image, state, sizeof state, frame, sizeof frame, report, sizeof report,
                        journal, sizeof journal);
+}
+
+static void check_journal(void)
+{
+    top = __builtin_frame_address(0);
+    answer = lane_check_journal(image, sizeof image, joined, lane_journal_bytes(events));
 }
 
 /* How deep a call goes below its caller's frame, or the depth before if that is more. */
@@ -111,7 +120,10 @@ int main(void)
     for (uint32_t i = 0; i < SCANS; i++) {
         write_frame(10 * i);
         depth = deeper(scan, depth);
+        memcpy(joined + lane_journal_bytes(events), journal, lane_journal_bytes(lane_value(answer)));
+        events += lane_value(answer);
     }
+    depth = deeper(check_journal, depth);
     printf("%lu\n", (unsigned long)depth);
     return EXIT_SUCCESS;
 }
