@@ -1,4 +1,4 @@
-// Report entries read from bytes, and how many events of a journal may be.
+// Report entries read from bytes, and how many events of a journal may be read.
 use layout::event;
 use layout::report;
 ghost use mathlib.Core.Path.{_≡_};

@@ -24,7 +24,7 @@ use Rattle.journal.specs.declared.check.JournalChecked.{JournalChecked}
 use Rattle.journal.specs.declared.check.JournalChecked.the-variants.{Events, Refused as JournalRefused}
 use Rattle.journal.proofs.CheckIsExact.{check-is-exact}
 
--- a number of a bad event, or 0
+-- the verdict, by what the code found: `bad` is the number of the first bad event, or 0
 module _ (blocks : List Block) (journal : List ℕ) where
   abbrev first : Option ℕ
   first = firstBad blocks noneOpen 0 (eventsOf journal)

@@ -26,7 +26,7 @@ use Rattle.journal.specs.Check.{OpenJobs, noneOpen, openedBy, isGood, fi
 use Rattle.journal.specs.CheckIsExact.{CheckIsExact}
 
 -- the rules from some open jobs on
-pub record AllowedFrom (blocks : List Block) (jobs : OpenJobs) (es : List Posted) : Type 0 where
+record AllowedFrom (blocks : List Block) (jobs : OpenJobs) (es : List Posted) : Type 0 where
   pub turns : (k : ℕ) → k < length blocks → (q : Option ℕ) × Turns (blockAt blocks k .kind) (jobs (suc k)) (eventsAt (suc k) es) q
   pub positions : (p : ℕ) → ((k : ℕ) → k < length blocks → p ≢ suc k) → eventsAt p es ≡ []
 
@@ -54,7 +54,7 @@ module _ (blocks : List Block) (jobs : OpenJobs) (e : Posted) where
         turn = subst (λ (p : ℕ). takesTurn (blockAt blocks (e .position - 1) .kind) (jobs p) (e .event) ≡ true) own (and-right inTable takes h);
       }
 
-  pub at-good : (k : ℕ) → GoodAt blocks jobs e k → isGood blocks jobs e ≡ true
+  at-good : (k : ℕ) → GoodAt blocks jobs e k → isGood blocks jobs e ≡ true
   unfolding isGood
   at-good k g =
       let own = g .position in
@@ -64,13 +64,16 @@ module _ (blocks : List Block) (jobs : OpenJobs) (e : Posted) where
       (and-join (leb 1 (e .position)) (leb (e .position) (length blocks)) (le-leb 1 (e .position) (omega arith)) (le-leb (e .position) (length blocks) (omega arith)))
       (rw (index, own) (g .turn))
 
--- a list with an event is not empty
+-- a number is not none, and a list with an event is not empty
+pub some-not-none : {A : Type 0} {n : ℕ} → some n ≡ none → A
+some-not-none h = let z : _≡_ {A = ℕ} 0 1 = cc in absurd (omega arith)
+
 pub cons-not-nil : {A : Type 0} {v : Event} {vs : List Event} → v ∷ vs ≡ [] → A
 cons-not-nil h = let z : _≡_ {A = ℕ} 0 1 = cc in absurd (omega arith)
 
 module _ (blocks : List Block) (jobs : OpenJobs) (e : Posted) (es : List Posted) where
   -- an event and those after it are allowed where it is good, and they are allowed with the jobs open after it
-  pub allowed-on : isGood blocks jobs e ≡ true → AllowedFrom blocks (openedBy e jobs) es → AllowedFrom blocks jobs (e ∷ es)
+  allowed-on : isGood blocks jobs e ≡ true → AllowedFrom blocks (openedBy e jobs) es → AllowedFrom blocks jobs (e ∷ es)
   allowed-on h f = record { turns = turns; positions = positions }
     where
       g : GoodAt blocks jobs e (e .position - 1)
@@ -93,7 +96,7 @@ module _ (blocks : List Block) (jobs : OpenJobs) (e : Posted) (es : List Posted)
           at-elsewhere p e es (λ i. o (e .position - 1) (g .within) (sym i ∙ own)) ∙ f .positions p o
 
   -- and back
-  pub allowed-back : AllowedFrom blocks jobs (e ∷ es) → (isGood blocks jobs e ≡ true) × AllowedFrom blocks (openedBy e jobs) es
+  allowed-back : AllowedFrom blocks jobs (e ∷ es) → (isGood blocks jobs e ≡ true) × AllowedFrom blocks (openedBy e jobs) es
   allowed-back f = (at-good blocks jobs e (e .position - 1) (block (e .position) refl), record { turns = turns; positions = positions })
     where
       -- its position is a block's: at any other there is no event
@@ -143,11 +146,11 @@ allowed-take blocks (suc m) (e ∷ es) jobs f =
     allowed-on blocks jobs e (take m es) (b .0) (allowed-take blocks m es (openedBy e jobs) (b .1))
 
 -- What is found of events that come after n good ones: all are allowed, or the first m are, and with the next one they are not.
-pub data Found (blocks : List Block) (jobs : OpenJobs) (n : ℕ) (es : List Posted) : Option ℕ → Type 0 where
+data Found (blocks : List Block) (jobs : OpenJobs) (n : ℕ) (es : List Posted) : Option ℕ → Type 0 where
   good : AllowedFrom blocks jobs es → Found blocks jobs n es none
   bad : (m number : ℕ) → number ≡ suc (n + m) → m < length es → AllowedFrom blocks jobs (take m es) → (AllowedFrom blocks jobs (take (suc m) es) → ⊥) → Found blocks jobs n es (some number)
 
-pub found : (blocks : List Block) (es : List Posted) (jobs : OpenJobs) (n : ℕ) → Found blocks jobs n es (firstBad blocks jobs n es)
+found : (blocks : List Block) (es : List Posted) (jobs : OpenJobs) (n : ℕ) → Found blocks jobs n es (firstBad blocks jobs n es)
 unfolding firstBad
 found blocks [] jobs n = good (none-allowed blocks jobs)
 found blocks (e ∷ es) jobs n = by (isGood blocks jobs e) refl (found blocks es (openedBy e jobs) (suc n))
@@ -166,31 +169,31 @@ module _ (blocks : List Block) (es : List Posted) where
   abbrev Good : List Posted → Type 0
   Good l = AllowedFrom blocks noneOpen l
 
-  pub to-allowed : (l : List Posted) → Good l → Allowed blocks l
+  to-allowed : (l : List Posted) → Good l → Allowed blocks l
   to-allowed l f = record { turns = f .turns; positions = f .positions }
 
-  pub from-allowed : (l : List Posted) → Allowed blocks l → Good l
+  from-allowed : (l : List Posted) → Allowed blocks l → Good l
   from-allowed l f = record { turns = f .turns; positions = f .positions }
 
   accepted : (x : Option ℕ) → Found blocks noneOpen 0 es x → x ≡ none → Allowed blocks es
   accepted none (good f) h = to-allowed es f
-  accepted (some n) (bad m number i l f g) h = let z : _≡_ {A = ℕ} 0 1 = cc in absurd (omega arith)
+  accepted (some n) (bad m number i l f g) h = some-not-none h
 
   accepts : (x : Option ℕ) → Found blocks noneOpen 0 es x → Allowed blocks es → x ≡ none
   accepts none (good f) a = refl
   accepts (some n) (bad m number i l f g) a = absurd (g (allowed-take blocks (suc m) es noneOpen (from-allowed es a)))
 
-  refused : (x : Option ℕ) → Found blocks noneOpen 0 es x → (n : ℕ) → x ≡ some n → (1 ≤ n) × (n ≤ length es) × Allowed blocks (take (n - 1) es) × (Allowed blocks (take n es) → ⊥)
-  refused none (good f) n h = let z : _≡_ {A = ℕ} 0 1 = cc in absurd (omega arith)
-  refused (some k) (bad m number i l f g) n h =
-      let same : number ≡ n = cc in
-      let e : n ≡ suc m = omega arith in
-      let d : suc m - 1 ≡ m = omega arith in
-      rw (e, d) (omega arith, omega arith, to-allowed (take m es) f, λ a. g (from-allowed (take (suc m) es) a))
-
   -- a shorter front of an allowed one is allowed
   front : (m n : ℕ) → m ≤ n → Good (take n es) → Good (take m es)
   front m n l f = rw (take-take m n es l) at (allowed-take blocks m (take n es) noneOpen f)
+
+  refused : (x : Option ℕ) → Found blocks noneOpen 0 es x → (n : ℕ) → x ≡ some n
+      → (1 ≤ n) × (n ≤ length es) × ((m : ℕ) → m < n → Allowed blocks (take m es)) × (Allowed blocks (take n es) → ⊥)
+  refused none (good f) n h = some-not-none (sym h)
+  refused (some k) (bad m number i l f g) n h =
+      let same : number ≡ n = cc in
+      let e : n ≡ suc m = omega arith in
+      (omega arith, omega arith, λ j s. to-allowed (take j es) (front j m (omega arith) f), λ a. g (rw e at (from-allowed (take n es) a)))
 
   refuses : (x : Option ℕ) → Found blocks noneOpen 0 es x → (n : ℕ) → n < length es → Allowed blocks (take n es) → (Allowed blocks (take (suc n) es) → ⊥) → x ≡ some (suc n)
   refuses none (good f) n l a b = absurd (b (to-allowed (take (suc n) es) (allowed-take blocks (suc n) es noneOpen f)))

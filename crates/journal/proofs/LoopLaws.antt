@@ -20,7 +20,11 @@ use Rattle.layout.proofs.EventLaws.{decode-first}
 use Rattle.block.specs.Event.{isStart}
 use Rattle.block.specs.Turns.{takesTurn}
 use Rattle.journal.specs.Check.{OpenJobs, noneOpen, openedBy, isGood, firstBad}
-use Rattle.journal.specs.OpenJob.{jobOf, jobsOf, badNumber}
+use Rattle.journal.specs.OpenJob.{jobOf, badNumber}
+
+-- the open jobs as the code holds them, by position, of which 0 is not used
+abbrev pub jobsOf : List Bool → List ℕ → OpenJobs
+jobsOf opens jobs p = jobOf (getD opens p false) (getD jobs p 0)
 
 -- no job is open at first
 none-at : (n p : ℕ) → getD (replicate n false) p false ≡ false

@@ -28,7 +28,7 @@ OpenJobs = ℕ → Option ℕ
 abbrev pub noneOpen : OpenJobs
 noneOpen p = none
 
--- after an event at a position the job there is another one
+-- an event changes the open job of its own position alone
 abbrev pub openedBy : Posted → OpenJobs → OpenJobs
 openedBy e jobs p = cond (eqb p (e .position)) (openAfter (e .event)) (jobs p)
 

@@ -23,7 +23,7 @@ event kind position code low high = kind ∷ position ∷ code ∷ 0 ∷ low ∷
 abbrev of7 : ℕ → ℕ → ℕ → List ℕ
 of7 kind position code = event kind position code 7 0
 
--- what a block at a position with job 7 open is answered for one event more
+-- a start of job 7 at a position, and what comes next
 abbrev after : ℕ → List ℕ → List ℕ
 after position next = of7 1 position 0 ++ next
 
@@ -33,7 +33,7 @@ journalRows =
     (image, []) gives value 0
     ∷ (image, of7 1 1 0) gives value 1
     ∷ (image, of7 1 1 0 ++ (of7 1 2 0 ++ (of7 3 1 1 ++ (event 1 1 0 8 0 ++ (of7 5 2 0 ++ (event 4 1 0 8 0 ++ of7 1 1 0)))))) gives value 7
-    -- a length that is no multiple of the event, though the first event is bad
+    -- a length that is no multiple of the event: no whole event, a good one cut short, a bad one and a byte more
     ∷ (image, 9 ∷ []) gives refusal 70 0
     ∷ (image, take 11 (of7 1 1 0)) gives refusal 70 0
     ∷ (image, of7 9 1 0 ++ (1 ∷ [])) gives refusal 70 0

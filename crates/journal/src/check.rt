@@ -64,7 +64,7 @@ fn first_bad(
         }
         opens[p] = posted.event.kind == Event::START;
         jobs[p] = posted.event.job;
-        i = number;
+        i += 1;
     }
     0
 }

@@ -1,5 +1,5 @@
--- Document 01: "each answer packed in one number". A value stands for itself; a refusal is its number × 2^32 + its place. A value or place above 2^32 - 1, of a journal
--- of that many events, is given as 2^32 - 1.
+-- Document 01: "each answer packed in one number". A value stands for itself; a refusal is its number × 2^32 + its place. A value or place above 2^32 - 1, which only a
+-- journal of 2^32 events or more has, is given as 2^32 - 1.
 use Prim.Native.Nat.{ℕ, _+_, _-_, _*_, _/_, _%_, _≤_, _<_}
 use mathlib.Core.Bool.{cond}
 use mathlib.Core.List.{List}
@@ -47,9 +47,13 @@ Packable (refusal number place) = (1 ≤ number) × (number < 256) × (place < n
 abbrev pub UnpackedIsPacked : Type 0
 UnpackedIsPacked = (a : Answer) → Packable a → unpacked (packed a) ≡ a
 
--- theorem fitted-packable, there too: they are packed as they are
-abbrev pub FittedIsPackable : Type 0
-FittedIsPackable = (a : Answer) → Packable a → fitted a ≡ a
+-- theorem packable-fitted, there too: they are packed as they are
+abbrev pub PackableIsFitted : Type 0
+PackableIsFitted = (a : Answer) → Packable a → fitted a ≡ a
+
+-- theorem saturated-exact, there too: a number that comes as less than 2^32 - 1 is exact
+abbrev pub SaturatedIsExact : Type 0
+SaturatedIsExact = (n : ℕ) → saturated n < numberWeight - 1 → saturated n ≡ n
 
 -- theorems check-packable, find-packable, fresh-packable, scan-packable and tidy-packable, there too: all that the entry points answer is such
 abbrev pub CheckIsPackable : Type 0
@@ -72,7 +76,6 @@ abbrev pub JournalIsPackable : Type 0
 JournalIsPackable =
     (image journal : List ℕ) → Bytes image → length journal < eventLength * numberWeight → Packable (journalAnswer (checkJournalOf image journal))
 
--- theorem journal-fitted, there too: of any journal what is packed is kept, so that the number tells whether it was accepted, or which check failed; a place or a count
--- below 2^32 - 1 is exact
-abbrev pub JournalIsFitted : Type 0
-JournalIsFitted = (image journal : List ℕ) → Bytes image → Packable (fitted (journalAnswer (checkJournalOf image journal)))
+-- theorem fitted-journal-packable, there too: of any journal what is packed is kept, so that the number tells whether it was accepted, or which check failed
+abbrev pub FittedJournalIsPackable : Type 0
+FittedJournalIsPackable = (image journal : List ℕ) → Bytes image → Packable (fitted (journalAnswer (checkJournalOf image journal)))

@@ -132,7 +132,7 @@ pub extern "C" fn lane_tidy(image: &[u8], out: &mut [u8]) -> u64
     pack_checked(tidy::tidy::tidy(image, out))
 }
 
-// Check a journal against a table: the number of its events, or the first check that fails. Of 2^32 or more events that number, and the place of a bad one, may be 2^32 - 1 instead.
+// Check a journal against a table: the number of its events, or the first check that fails.
 #[no_mangle]
 pub extern "C" fn lane_check_journal(image: &[u8], journal: &[u8]) -> u64
     ensures answer { λ r. ⌜ r ≡ packed (fitted (journalAnswer (checkJournalOf (now (image .entry)) (now (journal .entry))))) ⌝ }

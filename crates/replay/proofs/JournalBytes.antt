@@ -72,11 +72,11 @@ module _ (blocks : List Block) (told : Told) (state report journal : List ℕ) (
       }
 
 -- one scan more, accepted or refused
-scan-encoded : (image buffer state : List ℕ) (g : Given) → Bytes (g .told .frame) → Held image state → (v : Verdict) → scanVerdict image state g ≡ v
+scan-encoded : (image state : List ℕ) (g : Given) → Bytes (g .told .frame) → Held image state → (v : Verdict) → scanVerdict image state g ≡ v
     → (bytes : List ℕ) (events : List Posted) → Encodes bytes events
-    → Encodes (withBytes image buffer bytes (resultBy v image state g .answer) (resultBy v image state g)) (withEvents events (resultBy v image state g .answer) (resultBy v image state g))
-scan-encoded image buffer state g b s (Failed number place) e bytes events x = x
-scan-encoded image buffer state g b s Passed e bytes events x =
+    → Encodes (withBytes bytes (resultBy v image state g .answer) (resultBy v image state g)) (withEvents events (resultBy v image state g .answer) (resultBy v image state g))
+scan-encoded image state g b s (Failed number place) e bytes events x = x
+scan-encoded image state g b s Passed e bytes events x =
     let blocks = blocksOf image in
     let reported = verify-passes blocks state (g .told) (g .report) (g .journal) .givenFits e .reportSized in
     let own = calls-encoded blocks (g .told) state (g .report) (g .journal) (s .sized) reported b (s .fit) (length blocks) (omega arith) in
@@ -88,6 +88,6 @@ list-encoded image buffer n m noScan = record { encoded = refl; fits = nil }
 list-encoded image buffer n m (andScan {h = h} {g = g} x b) =
     let state = stateAfter image buffer h in
     let holds = held image (freshOf image buffer .state) n (m .table) (fresh-held image buffer n m) x in
-    subst (λ (r : ScanResult). Encodes (withBytes image buffer (journalBytes image buffer h) (r .answer) r) (withEvents (journalOf image buffer h) (r .answer) r))
+    subst (λ (r : ScanResult). Encodes (withBytes (journalBytes image buffer h) (r .answer) r) (withEvents (journalOf image buffer h) (r .answer) r))
     (sym (scan-is image state g n (m .table)))
-    (scan-encoded image buffer state g b holds (scanVerdict image state g) refl (journalBytes image buffer h) (journalOf image buffer h) (list-encoded image buffer n m x))
+    (scan-encoded image state g b holds (scanVerdict image state g) refl (journalBytes image buffer h) (journalOf image buffer h) (list-encoded image buffer n m x))

@@ -2,7 +2,7 @@
 -- same entry a call of a block at rest changes nothing. For the list of scans that writes a journal.
 use Prim.Native.Nat.{ℕ, zero, suc, _+_, _<_, _^_}
 use native.Mathlib.Omega.{arith}
-use mathlib.Core.Bool.{Bool, true, false, cond, not, _&&_, false≢true}
+use mathlib.Core.Bool.{Bool, true, false, cond, not, _&&_, and-false, false≢true}
 use mathlib.Core.List.{[], _∷_}
 use mathlib.Core.Option.{Option, none, some}
 use mathlib.Core.Path.{_≡_, refl, ap, _∙_}
@@ -34,18 +34,15 @@ use Rattle.block.specs.declared.entry.Piece.{Piece}
 use Rattle.block.specs.declared.entry.Entry.{Entry}
 use Rattle.block.specs.declared.executing.Work.{Work}
 use Rattle.block.specs.declared.pass.Pass.{Pass}
+use Rattle.block.proofs.Shapes.{End, isDone, isError, isAborted, endStep, endFlags, busy, rec}
 use Rattle.block.proofs.TurnLaws.{Turn, starts, completes, fails, expires, aborts, withdraws}
 
 abbrev event : ℕ → ℕ → ℕ → Event
 event kind code job = record { kind = kind; code = code; job = job }
 
-abbrev busy : Flags
-busy = record { busy = true; done = false; error = false; aborted = false }
-
 -- the record of a job that was started with a time-out of 1, at a step, without a reset request
 abbrev jobAt : ℕ → ℕ → ℕ → ℕ → Flags → Timer → Record
-jobAt k job n c f t =
-    record { step = n; flags = f; request = false; job = job; code = c; limit = 0; timeout = cond (isEdge k && hasTimeOut k) 1 0; timer = t }
+jobAt k job n c f t = rec n f false job c 0 (cond (isEdge k && hasTimeOut k) 1 0) t
 
 -- a block at rest: Dormant, or Executing with a job that is open since the reading 0
 abbrev pub atRest : ℕ → Option ℕ → Record
@@ -95,10 +92,6 @@ turnEntry (withdraws job h) = entryWith false false 0 0 0 noPiece
 abbrev pub calledWith : ℕ → Entry → Record → Outcome
 calledWith k e r = callOf k (e .inputs) e r
 
-and-false : (b : Bool) → b && false ≡ false
-and-false true = refl
-and-false false = refl
-
 cond-same : {A : Type 0} (b : Bool) (x : A) → cond b x x ≡ x
 cond-same true x = refl
 cond-same false x = refl
@@ -114,39 +107,34 @@ module _ (k : ℕ) (i : Inputs) (e : Entry) where
   unfolding callWithin
   goes-on n r p o h a c = rw (h, a, c)
 
--- the end steps: the flag that each shows, and its event
-pub data End : ℕ → Flags → Type 0 where
-  done : End Done (record { busy = false; done = true; error = false; aborted = false })
-  error : End Error (record { busy = false; done = false; error = true; aborted = false })
-  aborted : End Aborted (record { busy = false; done = false; error = false; aborted = true })
-
-abbrev finishOf : {n : ℕ} {f : Flags} → End n f → ℕ → ℕ → Event
-finishOf done c job = event DoneEvent 0 job
-finishOf error c job = event Failed c job
-finishOf aborted c job = event AbortedEvent 0 job
+-- the event of each end step
+abbrev finishOf : End → ℕ → ℕ → Event
+finishOf isDone c job = event DoneEvent 0 job
+finishOf isError c job = event Failed c job
+finishOf isAborted c job = event AbortedEvent 0 job
 
 module _ (k job c : ℕ) (t : Timer) where
   -- it is shown with start true, so that no reset is asked for
-  shows : {n : ℕ} {f : Flags} (z : End n f) (i : Inputs) (e : Entry) → i .start ≡ true
-      → pass k i e (jobAt k job n c busy t) ≡ record { next = jobAt k job n c f t; event = finishOf z c job; used = 0; again = false }
+  shows : (z : End) (i : Inputs) (e : Entry) → i .start ≡ true
+      → pass k i e (jobAt k job (endStep z) c busy t) ≡ record { next = jobAt k job (endStep z) c (endFlags z) t; event = finishOf z c job; used = 0; again = false }
   unfolding rule ended
-  shows done i e s = rw (s, and-false (not (not (isEdge k))))
-  shows error i e s = rw s
-  shows aborted i e s = rw s
+  shows isDone i e s = rw (s, and-false (not (not (isEdge k))))
+  shows isError i e s = rw s
+  shows isAborted i e s = rw s
 
   -- a call that comes to it writes its event
-  ends : {n : ℕ} {f : Flags} (z : End n f) (i : Inputs) (e : Entry) → i .start ≡ true → (m used : ℕ) (r : Record) → pass k i e r ≡ goOn used (jobAt k job n c busy t)
-      → callWithin (suc m) k i e r ≡ record { next = jobAt k job n c f t; events = finishOf z c job ∷ []; used = used + 0; passes = 2 }
-  ends done i e s m used r h = goes-on k i e m r _ _ h refl (halts k i e m _ _ (shows done i e s) refl)
-  ends error i e s m used r h = goes-on k i e m r _ _ h refl (halts k i e m _ _ (shows error i e s) refl)
-  ends aborted i e s m used r h = goes-on k i e m r _ _ h refl (halts k i e m _ _ (shows aborted i e s) refl)
+  ends : (z : End) (i : Inputs) (e : Entry) → i .start ≡ true → (m used : ℕ) (r : Record) → pass k i e r ≡ goOn used (jobAt k job (endStep z) c busy t)
+      → callWithin (suc m) k i e r ≡ record { next = jobAt k job (endStep z) c (endFlags z) t; events = finishOf z c job ∷ []; used = used + 0; passes = 2 }
+  ends isDone i e s m used r h = goes-on k i e m r _ _ h refl (halts k i e m _ _ (shows isDone i e s) refl)
+  ends isError i e s m used r h = goes-on k i e m r _ _ h refl (halts k i e m _ _ (shows isError i e s) refl)
+  ends isAborted i e s m used r h = goes-on k i e m r _ _ h refl (halts k i e m _ _ (shows isAborted i e s) refl)
 
   -- a call with start false resets it
-  settled : {n : ℕ} {f : Flags} → End n f → calledWith k (holdEntry none) (jobAt k job n c f t) ≡ record { next = freshRecord; events = []; used = 0; passes = 2 }
+  settled : (z : End) → calledWith k (holdEntry none) (jobAt k job (endStep z) c (endFlags z) t) ≡ record { next = freshRecord; events = []; used = 0; passes = 2 }
   unfolding callOf callWithin rule ended resetting
-  settled done = refl
-  settled error = refl
-  settled aborted = refl
+  settled isDone = refl
+  settled isError = refl
+  settled isAborted = refl
 
 module _ (k job : ℕ) where
   abbrev opened : Record
@@ -213,13 +201,13 @@ module _ (k job : ℕ) where
 
   -- the calls that write each event
   abort-call : (h : hasAbort k ≡ true) → calledWith k (entryWith true true 0 0 0 noPiece) opened
-      ≡ record { next = jobAt k job Aborted 0 (record { busy = false; done = false; error = false; aborted = true }) (start 0); events = event AbortedEvent 0 job ∷ []; used = 0; passes = 3 }
+      ≡ record { next = jobAt k job Aborted 0 (endFlags isAborted) (start 0); events = event AbortedEvent 0 job ∷ []; used = 0; passes = 3 }
   unfolding callOf rule aborting
   abort-call h =
       let e = entryWith true true 0 0 0 noPiece in
       let edge = abort-edge h in
       let gone : pass k (e .inputs) e (jobAt k job Aborting 0 busy (start 0)) ≡ goOn 0 (jobAt k job Aborted 0 busy (start 0)) = rw edge in
-      goes-on k (e .inputs) e 4 opened _ _ (off-pass e (rw (edge, h))) refl (ends k job 0 (start 0) aborted (e .inputs) e refl 3 0 _ gone)
+      goes-on k (e .inputs) e 4 opened _ _ (off-pass e (rw (edge, h))) refl (ends k job 0 (start 0) isAborted (e .inputs) e refl 3 0 _ gone)
 
   withdraw-call : isEdge k ≡ false → calledWith k (entryWith false false 0 0 0 noPiece) opened ≡ record { next = freshRecord; events = event Withdrawn 0 job ∷ []; used = 0; passes = 3 }
   unfolding callOf rule aborting resetting
@@ -276,15 +264,15 @@ unfolding callOf
 turn-written {k} (starts job) = made k none _ (some job) (turnEntry {k = k} (starts job)) _ _ _ _ _ (start-call k job) (hold-call k (some job))
 turn-written {k} (completes job h) =
     let e = turnEntry {k = k} (completes job h) in
-    made k (some job) _ none e _ _ _ _ _ (ends k job 0 (start 0) done (e .inputs) e refl 4 1 _ (complete-pass k job h)) (settled k job 0 (start 0) done)
+    made k (some job) _ none e _ _ _ _ _ (ends k job 0 (start 0) isDone (e .inputs) e refl 4 1 _ (complete-pass k job h)) (settled k job 0 (start 0) isDone)
 turn-written {k} (fails job c h) =
     let e = turnEntry {k = k} (fails job c h) in
-    made k (some job) _ none e _ _ _ _ _ (ends k job c (start 0) error (e .inputs) e refl 4 1 _ (error-pass k job c)) (settled k job c (start 0) error)
+    made k (some job) _ none e _ _ _ _ _ (ends k job c (start 0) isError (e .inputs) e refl 4 1 _ (error-pass k job c)) (settled k job c (start 0) isError)
 turn-written {k} (expires job h) =
     let e = turnEntry {k = k} (expires job h) in
     let late : Timer = record { last = 2; elapsed = 2 } in
-    made k (some job) _ none e _ _ _ _ _ (ends k job TimedOut late error (e .inputs) e refl 4 0 _ (late-pass k job h)) (settled k job TimedOut late error)
-turn-written {k} (aborts job h) = made k (some job) _ none (turnEntry {k = k} (aborts job h)) _ _ _ _ _ (abort-call k job h) (settled k job 0 (start 0) aborted)
+    made k (some job) _ none e _ _ _ _ _ (ends k job TimedOut late isError (e .inputs) e refl 4 0 _ (late-pass k job h)) (settled k job TimedOut late isError)
+turn-written {k} (aborts job h) = made k (some job) _ none (turnEntry {k = k} (aborts job h)) _ _ _ _ _ (abort-call k job h) (settled k job 0 (start 0) isAborted)
 turn-written {k} (withdraws job h) = made k (some job) _ none (turnEntry {k = k} (withdraws job h)) _ _ _ _ _ (withdraw-call k job h) (hold-call k none)
 
 -- the entries are in form
@@ -303,9 +291,11 @@ turn-form (aborts job h) = refl
 turn-form (withdraws job h) = refl
 
 -- and fit their bytes
+no-piece : PieceFits noPiece
+no-piece = record { reply = lit< tt; code = lit< tt; clock = lit< tt }
+
 with-fits : (starting aborting : Bool) (job clock count : ℕ) (p : Piece) → job < 256 ^ jobWidth → clock < 256 ^ 4 → count < 256 → PieceFits p → EntryFits (entryWith starting aborting job clock count p)
 with-fits starting aborting job clock count p j c n h =
-    let none-fits : PieceFits noPiece = record { reply = lit< tt; code = lit< tt; clock = lit< tt } in
     record {
       count = n;
       abortReply = lit< tt;
@@ -316,11 +306,8 @@ with-fits starting aborting job clock count p j c n h =
       timeout = lit< tt;
       clock = c;
       four = refl;
-      pieces = cons h (cons none-fits (cons none-fits (cons none-fits nil)));
+      pieces = cons h (cons no-piece (cons no-piece (cons no-piece nil)));
     }
-
-no-piece : PieceFits noPiece
-no-piece = record { reply = lit< tt; code = lit< tt; clock = lit< tt }
 
 pub hold-fits : (q : Option ℕ) → EntryFits (holdEntry q)
 hold-fits q = with-fits (isSome q) false 0 0 0 noPiece (lit< tt) (lit< tt) (lit< tt) no-piece

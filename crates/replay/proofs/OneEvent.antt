@@ -25,7 +25,7 @@ use Rattle.block.proofs.TurnLaws.{Turn, turn-cases}
 use Rattle.engine.specs.Fresh.{freshOf}
 use Rattle.run.specs.Scans.{Scans, _andThen_, FramesAreBytes, journalOf}
 use Rattle.journal.specs.Check.{OpenJobs, openedBy, isGood, firstBad}
-use Rattle.journal.proofs.CheckIsExact.{good-at, cons-not-nil}
+use Rattle.journal.proofs.CheckIsExact.{good-at, some-not-none, cons-not-nil}
 use Rattle.replay.specs.Written.{NoWires, EachAccepted, andScan}
 use Rattle.replay.proofs.Moves.{atRest, holdEntry, turnEntry, calledWith, hold-call, Writes, turn-written, hold-form, turn-form, hold-fits, turn-fits}
 use Rattle.replay.proofs.OneScan.{scanWith, blocks, kindAt, recordAt, written, Scanned, one-scan}
@@ -196,7 +196,7 @@ module _ (image buffer : List ℕ) (n : ℕ) (fresh : freshOf image buffer .answ
   -- an event of which none is bad is good
   good-first : (b : Bool) (x : Option ℕ) (m : ℕ) → cond b x (some m) ≡ none → b ≡ true
   good-first true x m h = refl
-  good-first false x m h = let z : _≡_ {A = ℕ} 0 1 = cc in absurd (omega arith)
+  good-first false x m h = some-not-none h
 
   pub all-events : (m : ℕ) {es : List Posted} → All (λ e. EventFits (e .event)) es → (h : Scans) (jobs : OpenJobs) → Rests image buffer h jobs
       → firstBad (blocksOf image) jobs m es ≡ none → Grown h es

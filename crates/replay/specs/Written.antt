@@ -22,6 +22,11 @@ use Rattle.journal.specs.declared.check.JournalChecked.the-variants.{Events}
 abbrev pub NoWires : List Block → Type 0
 NoWires blocks = (k : ℕ) → k < length blocks → (blockAt blocks k .start .position ≡ 0) × (blockAt blocks k .abort .position ≡ 0)
 
+-- what an accepted scan wrote: the bytes of as many events as it answered; a refused one wrote none
+abbrev pub withBytes : List ℕ → Scanned → ScanResult → List ℕ
+withBytes bytes (ScanEvents n) r = bytes ++ take (eventLength * n) (r .journal)
+withBytes bytes (Refused number place) r = bytes
+
 -- A list of scans from a fresh state; `buffer` is what fresh was lent.
 module _ (image buffer : List ℕ) where
   -- "accepted scans": every scan of the list is accepted
@@ -29,11 +34,7 @@ module _ (image buffer : List ℕ) where
     noScan : EachAccepted none
     andScan : {h : Scans} {g : Given} → EachAccepted h → (m : ℕ) → resultOf image buffer h g .answer ≡ ScanEvents m → EachAccepted (h andThen g)
 
-  -- the journal of the list as bytes: of each accepted scan those of as many events as it answered, joined in the order of the scans
-  abbrev pub withBytes : List ℕ → Scanned → ScanResult → List ℕ
-  withBytes bytes (ScanEvents n) r = bytes ++ take (eventLength * n) (r .journal)
-  withBytes bytes (Refused number place) r = bytes
-
+  -- the journal of the list as bytes, joined in the order of the scans
   unfoldable pub journalBytes : Scans → List ℕ
   journalBytes none = []
   journalBytes (h andThen g) = withBytes (journalBytes h) (resultOf image buffer h g .answer) (resultOf image buffer h g)

@@ -6,7 +6,6 @@ use lib.ListN.{replicate}
 use Rattle.clock.specs.declared.Timer.{Timer}
 use Rattle.table.specs.Place.{Answer}
 use Rattle.layout.specs.Buffer.{reportLength, eventLength}
-use Rattle.layout.specs.EventLayout.{}
 use Rattle.layout.specs.declared.event.Posted.{Posted}
 use Rattle.block.specs.Entry.{Complete}
 use Rattle.block.specs.WorkedExamples.{entry}

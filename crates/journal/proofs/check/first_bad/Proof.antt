@@ -12,8 +12,7 @@ use Rattle.image.specs.Image.{mostSlots}
 use Rattle.table.specs.Blocks.{blocksOf}
 use Rattle.table.proofs.AcceptedLaws.{accepted-blocks, accepted-few}
 use Rattle.layout.specs.Buffer.{eventLength}
-use Rattle.journal.specs.OpenJob.{jobsOf}
-use Rattle.journal.proofs.LoopLaws.{no-position, by-turn, Checking, checking-starts, found-bad, checking-on, checking-ends}
+use Rattle.journal.proofs.LoopLaws.{jobsOf, no-position, by-turn, Checking, checking-starts, found-bad, checking-on, checking-ends}
 use Rattle.journal.proofs.check.first_bad.Statement.{statement}
 use Rattle.journal.proofs.check.first_bad.Tie as tie
 
@@ -156,6 +155,9 @@ array-write-jobs c =
     let inside = within-bounds 1 (given .args .count) (e .position) (sym (asked .is-position .ensures) ∙ not-false _ (placed .if1 .left)) in
     omega (arith, accepted-few (given .args .image .now) (given .args .count) (given .pre .0 .answer))
 
+add-i : tie.Need-add-i Inv-loop μ-loop
+add-i c = omega arith
+
 loop-less : tie.Need-loop-less Inv-loop μ-loop
 loop-less c = omega arith
 
@@ -217,6 +219,7 @@ first-bad-spec =
     array-write-opens
     mul-jobs
     array-write-jobs
+    add-i
     loop-less
     loop-again
     returns-3)
