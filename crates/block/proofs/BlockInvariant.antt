@@ -1,77 +1,35 @@
 -- Demand 3 of document 01 for one block: its statement is in specs/BlockInvariant.antt. By induction on the history, a call a time, from the
 -- laws of calls, soundness, events and time. For the list of scans.
-use Prim.Native.Nat.{ℕ, _+_, _≤_, _<_}
+use Prim.Native.Nat.{ℕ, _≤_, _<_}
 use native.Mathlib.Omega.{arith}
 use mathlib.Core.Bool.{Bool, true, false, cond}
-use mathlib.Core.List.{List}
 use mathlib.Core.Logic.{_≢_}
-use mathlib.Core.Option.{Option, none, some}
+use mathlib.Core.Option.{none, some}
 use mathlib.Core.Path.{_≡_, _∙_, refl, sym, ap}
-use lib.Dec.{eqb, leb}
+use lib.Dec.{eqb}
 use lib.ListN.{take}
-use borrow.Author.Tests.{eqb-true, leb-true, le-leb}
-use Rattle.membership.specs.Membership.{within}
 use Rattle.kind.specs.Kind.{isKind, isEdge, hasTimeOut}
 use Rattle.clock.specs.Clock.{clockModulus, tick}
 use Rattle.clock.specs.Clock.{start as begin}
 use Rattle.clock.specs.declared.Timer.{Timer}
 use Rattle.block.specs.Record.{Dormant, Executing, bit}
-use Rattle.block.specs.Event.{Start, DoneEvent, Failed, AbortedEvent, Withdrawn}
 use Rattle.block.specs.Entry.{entryFits}
 use Rattle.block.specs.Dormant.{timeOutTaken}
 use Rattle.block.specs.Executing.{timeOutOf}
 use Rattle.block.specs.Sound.{sound, zeroed, flagsFit, codeSound, requestSound, stepSound, timesSound}
 use Rattle.block.specs.Call.{Outcome, callOf, Whole}
-use Rattle.block.specs.Turns.{Turns, end, turn, countOf, hasStart}
+use Rattle.block.specs.Turns.{Turns, end, hasStart}
 use Rattle.block.specs.History.{History, fresh, _then_, eventsOf, recordAfter, tickAll, clocksOf, timerOf, takenTimeOut, timeOutInForce}
 use Rattle.block.specs.BlockInvariant.{seenCall, MachineHistory, noCall, andCall, isOpen, openJob, flagCount, EachCall, nothing, andSeen, BlockInvariantHolds, CallsCountInStep}
 use Rattle.block.specs.declared.record.Record.{Record}
-use Rattle.block.specs.declared.event.Event.{Event}
 use Rattle.block.specs.declared.entry.Inputs.{Inputs}
 use Rattle.block.specs.declared.entry.Entry.{Entry}
-use Rattle.membership.proofs.Logic.{and-right}
-use Rattle.block.proofs.Tests.{to-six}
-use Rattle.block.proofs.Tests.{none as no-case}
 use Rattle.block.proofs.Shapes.{isDone, isError, isAborted, Settled, idle, runs, aborts, shows, resets, withdraws, settled-of}
 use Rattle.block.proofs.CallLaws.{call-whole}
 use Rattle.block.proofs.SoundLaws.{call-sound}
-use Rattle.block.proofs.TurnLaws.{finish-not-start, start-turn, finish-turn}
+use Rattle.block.proofs.CountLaws.{openCount, finishes, turns-counts}
 use Rattle.block.proofs.EventLaws.{turns-append, call-turns, call-jobs}
 use Rattle.block.proofs.TimeLaws.{Timing, call-time, call-in-step}
-
--- starts and finishes in turns: as many, with the job that is open
-
-unfoldable pub openCount : Option ℕ → ℕ
-openCount none = 0
-openCount (some j) = 1
-
-unfoldable pub finishes : List Event → ℕ
-finishes es = countOf DoneEvent es + countOf Failed es + countOf AbortedEvent es + countOf Withdrawn es
-
-abbrev one : ℕ → ℕ → ℕ
-one n m = cond (eqb n m) 1 0
-
--- a finish is one event of one kind, and no start
-finish-counts : (n : ℕ) → within DoneEvent Withdrawn n ≡ true → (one n Start ≡ 0) × (one n DoneEvent + one n Failed + one n AbortedEvent + one n Withdrawn ≡ 1)
-finish-counts n h =
-    to-six (λ (m : ℕ). within DoneEvent Withdrawn m ≡ true → (one m Start ≡ 0) × (one m DoneEvent + one m Failed + one m AbortedEvent + one m Withdrawn ≡ 1)) n
-    (le-leb n 6 (omega (arith, leb-true n Withdrawn (and-right (leb DoneEvent n) (leb n Withdrawn) h))))
-    no-case no-case (λ _. (refl, refl)) (λ _. (refl, refl)) (λ _. (refl, refl)) (λ _. (refl, refl)) no-case h
-
-start-counts : (n : ℕ) → eqb n Start ≡ true → (one n Start ≡ 1) × (one n DoneEvent + one n Failed + one n AbortedEvent + one n Withdrawn ≡ 0)
-start-counts n h = rw (eqb-true n Start h) (refl, refl)
-
-pub turns-counts : {k : ℕ} {p q : Option ℕ} {es : List Event} → Turns k p es q → countOf Start es + openCount p ≡ finishes es + openCount q
-unfolding countOf openCount finishes
-turns-counts end = refl
-turns-counts {k} {p = none} (turn v h x) =
-    let a = start-turn k v h .0 in
-    let c = start-counts (v .kind) a in
-    omega (arith, rw a at (turns-counts x))
-turns-counts {k} {p = some job} (turn v h x) =
-    let a = finish-turn k job v h .0 in
-    let c = finish-counts (v .kind) a in
-    omega (arith, rw (finish-not-start v a) at (turns-counts x))
 
 open-count : (b : Bool) (j : ℕ) → openCount (cond b (some j) none) ≡ bit b
 unfolding openCount

@@ -4,6 +4,7 @@ pub mod Shapes
 pub mod SoundSteps
 pub mod WorkLaws
 pub mod TurnLaws
+pub mod CountLaws
 pub mod Passes
 pub mod CallLaws
 pub mod CallPhases

@@ -1,6 +1,6 @@
 -- What is answered, by the first check that fails or by the number of events: for the proofs of `check::check_events` and `check::check_journal`; and which journals are accepted over an accepted
 -- table, for crates that rest on an accepted journal.
-use Prim.Native.Nat.{ℕ, _%_}
+use Prim.Native.Nat.{ℕ, _*_, _%_}
 use native.Mathlib.Omega.{arith}
 use mathlib.Core.Bool.{Bool, true, false}
 use mathlib.Core.List.{List}
@@ -18,6 +18,8 @@ use Rattle.table.specs.declared.place.Verdict.the-variants.{Passed, Failed}
 use Rattle.table.specs.declared.check.Checked.{Checked}
 use Rattle.table.specs.declared.check.Checked.the-variants.{Blocks, Refused}
 use Rattle.layout.specs.Buffer.{eventLength}
+use Rattle.layout.specs.EventLayout.{decodeEvents}
+use Rattle.journal.specs.Allowed.{Allowed}
 use Rattle.journal.specs.Check.{noneOpen, firstBad, eventCount, eventsOf, journalVerdict, answerBy, answerByTable, checkJournalOf, journalAnswer}
 use Rattle.journal.specs.OpenJob.{badNumber}
 use Rattle.journal.specs.declared.check.JournalChecked.{JournalChecked}
@@ -88,3 +90,28 @@ module _ (image journal : List ℕ) (n : ℕ) (table : checkOf image ≡ Blocks 
       by true w none g = record { whole = eqb-true (length journal % eventLength) 0 w; good = g }
       by true w (some i) g = refused 71 (Event i) (rw (table, w, g) at h)
       by false w x g = refused 70 Header (rw (table, w) at h)
+
+  -- its events, all of them: how many bytes, and that the rules allow them
+  module _ (m : ℕ) (accepted : checkJournalOf image journal ≡ Events m) where
+    passes : Passes image journal
+    passes = accepted-passes m accepted
+
+    count-is : eventCount journal ≡ m
+    count-is = ap valueOf (sym (passes-accepted passes) ∙ accepted)
+      where
+        valueOf : JournalChecked → ℕ
+        valueOf (Events v) = v
+        valueOf (JournalRefused number place) = 0
+
+    pub accepted-length : length journal ≡ eventLength * m
+    accepted-length = let whole = passes .whole in let count = count-is in omega arith
+
+    pub accepted-allowed : Allowed (blocksOf image) (decodeEvents m journal)
+    accepted-allowed = rw count-is at (check-is-exact (blocksOf image) (eventsOf journal) .accepted (passes .good))
+
+-- no journal is accepted over a table that is refused
+pub table-not-refused : {A : Type 0} (image journal : List ℕ) (m number : ℕ) (place : Place) → checkJournalOf image journal ≡ Events m → checkOf image ≡ Refused number place → A
+unfolding checkJournalOf
+table-not-refused image journal m number place accepted refused =
+    let e : JournalRefused number place ≡ Events m = rw refused at accepted in
+    let z : _≡_ {A = ℕ} 0 1 = cc in absurd (omega arith)

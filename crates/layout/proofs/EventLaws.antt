@@ -1,6 +1,6 @@
 -- Journal events: each read back and written back, a journal that begins with encoded events or is nothing else, and the events of one position.
 -- For the engine's journal, for the journal of a list of scans, and for crates that read journals.
-use Prim.Native.Nat.{ℕ, zero, suc, _+_, _*_}
+use Prim.Native.Nat.{ℕ, zero, suc, _+_, _*_, _≤_}
 use mathlib.Core.Path.{_≡_, refl, ap, sym, _∙_}
 use mathlib.Core.Bool.{Bool, true, false, cond}
 use mathlib.Core.List.{List, [], _∷_, _++_, append-assoc, append-nil}
@@ -10,6 +10,7 @@ use lib.Dec.{eqb}
 use lib.ListN.{length, take, drop, length-append, length-drop, take-append-drop}
 use lib.Seq.{drop-drop, take-at, drop-at, length-take-le}
 use borrow.Author.Tests.{eq-eqb, ne-eqb}
+use Rattle.membership.proofs.Logic.{by-test}
 use Rattle.words.specs.Word.{Bytes, bytes}
 use Rattle.words.proofs.WordLaws.{number-of-bytes}
 use Rattle.block.specs.declared.event.Event.{Event}
@@ -159,7 +160,7 @@ pub at-elsewhere : (k : ℕ) (p : Posted) (ps : List Posted) → (p .position �
 unfolding eventsAt
 at-elsewhere k p ps h = rw (ne-eqb (p .position) k h)
 
--- of two journals joined, and of one block's events
+-- of two journals joined, no more than there are events, and of one block's events
 keep : (b : Bool) (v : Event) (l m : List Event) → cond b (v ∷ (l ++ m)) (l ++ m) ≡ cond b (v ∷ l) l ++ m
 keep true v l m = refl
 keep false v l m = refl
@@ -168,6 +169,11 @@ pub at-append : (k : ℕ) (ps qs : List Posted) → eventsAt k (ps ++ qs) ≡ ev
 unfolding eventsAt
 at-append k [] qs = refl
 at-append k (p ∷ ps) qs = rw (at-append k ps qs) (keep (eqb (p .position) k) (p .event) (eventsAt k ps) (eventsAt k qs))
+
+pub at-most : (k : ℕ) (ps : List Posted) → length (eventsAt k ps) ≤ length ps
+unfolding eventsAt
+at-most k [] = omega arith
+at-most k (p ∷ ps) = let h = at-most k ps in by-test (eqb (p .position) k) (λ t. rw t (omega arith)) (λ t. rw t (omega arith))
 
 pub at-own : (k : ℕ) (vs : List Event) → eventsAt k (posted k vs) ≡ vs
 unfolding eventsAt posted
