@@ -2,6 +2,7 @@
 // caller could not show. The program calls each with no bytes at all and prints what it answered.
 use engine::scan::Scanned;
 use journal::check::JournalChecked;
+use sheet::sheet::SHEET_ROOM;
 use table::check::Checked;
 use table::lookup::Found;
 
@@ -37,6 +38,10 @@ fn tidy(image: &[u8], out: &mut [u8]) -> Checked {
 
 fn check_journal(image: &[u8], journal: &[u8]) -> JournalChecked {
     journal::check::check_journal(image, journal)
+}
+
+fn totals(input: &[u8], out: &mut [u8; SHEET_ROOM]) -> usize {
+    sheet::totals::totals(input, out)
 }
 
 fn lane_check(image: &[u8]) -> u64 {
@@ -124,6 +129,10 @@ fn entry_points() {
     print_scanned(scan(&none, &mut state, &none, &mut report, &mut journal));
     print_checked(b"tidy", tidy(&none, &mut out));
     print_journal(check_journal(&none, &none));
+    let mut text = [0u8; SHEET_ROOM];
+    print(b"totals: ");
+    io::print_decimal(1, totals(&none, &mut text) as u64);
+    print(b" bytes\n");
 }
 
 fn exports() {

@@ -1,0 +1,5 @@
+pub mod LineLaws
+pub mod SheetLaws
+pub mod TotalsLaws
+pub mod SheetCounts
+pub mod SheetExamples

@@ -1,0 +1,5 @@
+pub mod Line
+pub mod Sheet
+pub mod Totals
+pub mod SheetCounts
+pub mod SheetExamples
