@@ -4,6 +4,9 @@
  *
  * Build at the root of the repository, after `rt staticlib lane`:
  *     gcc -std=c99 -Wall -Wextra -Iinclude examples/gate_host.c target/staticlib/liblane.a -o target/gate_host
+ *
+ * Given a file's name, it also leaves the table and the journal there, as the program `totals` reads them:
+ *     target/gate_host target/shift && target/bin/totals <target/shift
  */
 
 #include "lane.h"
@@ -420,10 +423,12 @@ static uint32_t finish_of(const uint8_t *journal, uint32_t events, uint64_t truc
 static void check_wrong_truck(const struct box *box, uint8_t *journal, uint32_t events)
 {
     uint32_t number = finish_of(journal, events, NEXT_TRUCK);
-    struct lane_event event = lane_get_event(journal, number);
-    event.job = TRUCK;
-    lane_put_event(journal, number, &event);
+    const struct lane_event event = lane_get_event(journal, number);
+    struct lane_event wrong = event;
+    wrong.job = TRUCK;
+    lane_put_event(journal, number, &wrong);
     uint64_t answer = check_journal(box, journal, lane_journal_bytes(events));
+    lane_put_event(journal, number, &event);
     expect(lane_refusal_number(answer) == LANE_REFUSED_EVENT &&
                lane_refusal_place_kind(answer) == LANE_PLACE_EVENT && lane_refusal_place(answer) == number,
            "the event with the wrong truck is refused");
@@ -433,11 +438,8 @@ static void check_wrong_truck(const struct box *box, uint8_t *journal, uint32_t 
 }
 
 /* The journal of all scans, as bytes, is accepted; cut short by a byte it is not. */
-static void check_journals(const struct box *box, const struct logged *log, uint32_t events)
+static void check_journals(const struct box *box, uint8_t *journal, uint32_t events)
 {
-    static uint8_t journal[2 * LANE_EVENT_BYTES * LANES * SCANS];
-    for (uint32_t i = 0; i < events; i++)
-        lane_put_event(journal, i + 1, &log[i].event);
     uint64_t answer = check_journal(box, journal, lane_journal_bytes(events));
     expect(accepted("lane_check_journal", answer) == events, "the number of all events");
     printf("\nThe journal, handed over as bytes and checked against the table: %u events.\n", (unsigned)events);
@@ -449,10 +451,23 @@ static void check_journals(const struct box *box, const struct logged *log, uint
     check_wrong_truck(box, journal, events);
 }
 
-int main(void)
+/* Leaves the table and then the journal in a file, for `totals`. */
+static void hand_over(const char *name, const struct box *box, const uint8_t *journal, size_t journal_len)
+{
+    FILE *file = fopen(name, "wb");
+    int whole = file != NULL && fwrite(box->image, sizeof box->image, 1, file) == 1 &&
+                fwrite(journal, 1, journal_len, file) == journal_len;
+    if (file == NULL || fclose(file) != 0 || !whole) {
+        fprintf(stderr, "%s: the table and the journal could not be written\n", name);
+        exit(EXIT_FAILURE);
+    }
+}
+
+int main(int argc, char **argv)
 {
     static struct box box;
     static struct logged log[2 * LANES * SCANS];
+    static uint8_t journal[2 * LANE_EVENT_BYTES * LANES * SCANS]; /* of all scans, as bytes */
     uint32_t events = 0;
 
     print_story();
@@ -468,6 +483,10 @@ int main(void)
         events += run_story(&box, scan, log + events);
     print_journal(log, events);
     run_bad_scan(&box);
-    check_journals(&box, log, events);
+    for (uint32_t i = 0; i < events; i++)
+        lane_put_event(journal, i + 1, &log[i].event);
+    check_journals(&box, journal, events);
+    if (argc > 1)
+        hand_over(argv[1], &box, journal, lane_journal_bytes(events));
     return EXIT_SUCCESS;
 }
