@@ -12,6 +12,8 @@
 //! - [`journals`]: journals of a table, good, damaged and foreign.
 //! - [`verdicts`]: what the rules say of a journal, counted.
 //! - [`scripts`]: lists of scans that write a given journal.
+//! - [`program`]: the program `totals`, run on an input over real pipes.
+//! - [`sheets`]: inputs of it, and the sheets that it prints, counted.
 //! - [`readings`]: the readings of calls, those out of step counted.
 //! - [`seen`]: what the accepted scans did.
 //! - [`jobs`]: the jobs of their events, counted by their form.
@@ -29,6 +31,7 @@ pub mod forms;
 pub mod jobs;
 pub mod journals;
 pub mod layouts;
+pub mod program;
 pub mod readings;
 pub mod records;
 pub mod rng;
@@ -36,6 +39,7 @@ pub mod scan_check;
 pub mod scans;
 pub mod scripts;
 pub mod seen;
+pub mod sheets;
 pub mod tables;
 pub mod tally;
 pub mod text;

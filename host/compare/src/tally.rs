@@ -24,6 +24,9 @@ pub const JOURNAL: [u32; 2] = [JOURNAL_LENGTH, EVENT];
 pub const JOURNAL_LENGTH: u32 = 70;
 pub const EVENT: u32 = 71;
 
+/// The number of an input that is longer than the program `totals` reads.
+pub const INPUT_LENGTH: u32 = 75;
+
 /// How often each answer was seen: accepted calls, and refusals by number and place.
 #[derive(Clone, Debug, Default)]
 pub struct Tally {

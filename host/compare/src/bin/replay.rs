@@ -1,4 +1,4 @@
-//! Runs one call again through the engine and the reference:
+//! Runs one call again through the engine, or its program, and the reference:
 //!
 //!     cargo run -p compare --bin replay -- check xIMAGE
 //!     cargo run -p compare --bin replay -- find xIMAGE xTAG
@@ -6,6 +6,7 @@
 //!     cargo run -p compare --bin replay -- check_journal xIMAGE xJOURNAL
 //!     cargo run -p compare --bin replay -- fresh xIMAGE xSTATE
 //!     cargo run -p compare --bin replay -- scan xIMAGE xSTATE xFRAME xREPORT xJOURNAL
+//!     cargo run -p compare --bin replay -- totals xINPUT
 
 use std::env;
 use std::process::ExitCode;
@@ -13,7 +14,7 @@ use std::process::ExitCode;
 fn main() -> ExitCode {
     let words: Vec<String> = env::args().skip(1).collect();
     let words: Vec<&str> = words.iter().map(String::as_str).collect();
-    match compare::scan_check::run(&words) {
+    match compare::sheets::run(&words) {
         Ok(text) => {
             println!("both give {text}");
             ExitCode::SUCCESS
