@@ -1,9 +1,11 @@
+#![tactic(auto)]
+
 // Clock readings are u32 counters of microseconds that wrap at 4,294,967,296. Everything that counts time goes through these names.
 ghost use Rattle.std.specs.Prelude.{◌≡◌, ◌+◌, min};
 ghost use Rattle.clock.specs.Clock.{most_elapsed, since, out_of_step, counted, start, tick, past, past_limit, past_time_out};
 
 // The last reading, and the time counted up to it.
-#[derive(Drop)]
+#[derive(Clone, Copy)]
 pub struct Timer {
     pub last: u32,
     pub elapsed: u64,
