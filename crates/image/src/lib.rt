@@ -1,3 +1,5 @@
+#![tactic(auto)]
+
 // The table image: its lengths and bytes by name.
 ghost use Rattle.std.specs.Prelude.{◌≡◌, ◌<◌};
 ghost use Rattle.image.specs.Image.{slot_length, slot_start, slot_byte, HasSlot};
