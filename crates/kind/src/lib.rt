@@ -1,8 +1,11 @@
+#![tactic(auto)]
+
 // What a kind byte says of its block. Kinds 1 to 8 are edge blocks, 9 to 14 level blocks.
 ghost use Rattle.std.specs.Prelude.{◌≡◌};
 ghost use Rattle.kind.specs.Kind.{is_kind, is_edge, has_abort, can_abort, has_time_limit, has_time_out, is_continuous};
 
 // One of the fourteen kinds.
+#[tactic(auto, unfolding(crate::specs::Kind::is_kind))]
 pub fn is_kind(kind: u8) -> bool
     ensures { result ≡ is_kind kind }
 {
@@ -13,6 +16,7 @@ pub fn is_kind(kind: u8) -> bool
 }
 
 // An edge block, started by Execute; the other kinds are level blocks, run by Enable.
+#[tactic(auto, unfolding(crate::specs::Kind::is_edge))]
 pub fn is_edge(kind: u8) -> bool
     ensures { result ≡ is_edge kind }
 {
@@ -23,6 +27,7 @@ pub fn is_edge(kind: u8) -> bool
 }
 
 // A: an abort input.
+#[tactic(auto, unfolding(crate::specs::Kind::has_abort))]
 pub fn has_abort(kind: u8) -> bool
     ensures { result ≡ has_abort kind }
 {
@@ -33,6 +38,7 @@ pub fn has_abort(kind: u8) -> bool
 }
 
 // Comes to Aborting: a kind with an abort input, or a level block.
+#[tactic(auto, unfolding(crate::specs::Kind::can_abort))]
 pub fn can_abort(kind: u8) -> bool
     ensures { result ≡ can_abort kind }
 {
@@ -53,6 +59,7 @@ pub fn has_time_limit(kind: u8) -> bool
 }
 
 // To: a time-out for the job.
+#[tactic(auto, unfolding(crate::specs::Kind::has_time_out))]
 pub fn has_time_out(kind: u8) -> bool
     ensures { result ≡ has_time_out kind }
 {
@@ -63,6 +70,7 @@ pub fn has_time_out(kind: u8) -> bool
 }
 
 // C: continuous, never Done.
+#[tactic(auto, unfolding(crate::specs::Kind::is_continuous))]
 pub fn is_continuous(kind: u8) -> bool
     ensures { result ≡ is_continuous kind }
 {
