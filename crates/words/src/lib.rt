@@ -1,5 +1,7 @@
+#![tactic(auto)]
+
 // Little-endian numbers in bytes. One function a width; the laws are stated once, over the width.
-ghost use Rattle.std.specs.Prelude.{◌≡◌, ◌+◌, ◌≤◌, length};
+ghost use Rattle.std.specs.Prelude.{◌≡◌, ◌+◌, ◌≤◌, ◌++◌, length, drop};
 ghost use Rattle.words.specs.Word.{bytes, number_at};
 
 // The number in two bytes.
@@ -75,4 +77,12 @@ pub fn u64_bytes(x: u64) -> [u8; 8]
         (x6 % 256) as u8,
         (x7 % 256) as u8,
     ]
+}
+
+// Copies bytes to the front of a buffer; the rest of it stays.
+pub fn copy(from: &[u8], out: &mut [u8])
+    requires { length from.now ≤ length out.old }
+    ensures { out.new ≡ from.now ++ drop (length from.now) out.old }
+{
+    out[..from.len()].copy_from_slice(from);
 }
