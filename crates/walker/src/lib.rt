@@ -1,3 +1,5 @@
+#![tactic(auto)]
+
 // The chain's walker: the image and the current slot. Slot 0 stands for the header, which names the head.
 // `next_slot` does the work; `next` takes the walker apart for it, and `slot_after` makes one.
 ghost use Rattle.std.specs.Prelude.{◌≡◌};
@@ -6,7 +8,7 @@ ghost use Rattle.walker.specs.Next.{next_slot};
 
 use image::{HEAD_OFFSET, NEXT_OFFSET, slot_byte};
 
-#[derive(Drop)]
+#[derive(Clone, Copy)]
 pub struct Walker<'a> {
     pub image: &'a [u8],
     pub slot: u8,
