@@ -17,10 +17,8 @@ use Rattle.table.specs.Walk.{Met, Stopped, unmet, walk_in, walk_from, walked}
 use Rattle.table.specs.Chain.{slots_of, chain_of, chain_verdict, position_from, position_of, HoldsPositions, Holds}
 use Rattle.table.specs.declared.place.Place.{Place}
 use Rattle.table.specs.declared.place.Place.TheVariants.{Header, Slot}
-use Rattle.table.specs.declared.place.Verdict.{Verdict}
-use Rattle.table.specs.declared.place.Verdict.TheVariants.{Passed, Failed}
+use Rattle.table.specs.declared.place.Verdict.TheVariants.{Passed}
 use Rattle.membership.proofs.Logic.{by_test}
-use Rattle.table.proofs.Logic.{not_failed}
 use Rattle.membership.proofs.AmongLaws.{among_at, AllIn, all_snoc, all_at}
 use Rattle.table.proofs.PositionLaws.{position_snoc, position_zero, position_some, position_test}
 use Rattle.table.proofs.Walk.{unmet_nil, unmet_more, unmet_none, walk_ends, walk_above, walk_again, walk_onward}
@@ -125,13 +123,6 @@ module _ (image slots positions : List ℕ) (count : ℕ) (from : Place) (at : �
         places = rw t (store_position (take count slots) positions at count w.places u (length-take-le count slots (omega (arith, w.sized))) (omega arith));
         onward = rw t (sym (walk_onward image (take count slots) from at (omega arith) h u) ∙ w.onward);
       }
-
--- a walk that stopped: its arrays hold no chain
-pub stopped_walk : (image : List ℕ) (number : ℕ) (place : Place) (v : Verdict) (count : ℕ) (slots positions : List ℕ)
-    → Stopped number place ≡ walked image → v ≡ Failed number place
-    → (v ≡ chain_verdict (walked image)) × (v ≡ Passed → Holds (chain_of image) count slots positions)
-stopped_walk image number place v count slots positions e f =
-    (f ∙ ap chain_verdict e, λ g. not_failed v number place f g)
 
 -- every chain is of slots 1 to N
 walk_in_lem : (left : ℕ) (image met : List ℕ) (from : Place) (at : ℕ) → AllIn (slot_count image) met → AllIn (slot_count image) (slots_of (walk_in left image met from at))

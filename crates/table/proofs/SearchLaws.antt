@@ -3,7 +3,7 @@
 use Prim.Native.Nat.{ℕ, zero, suc, ◌+◌, ◌-◌, ◌≤◌, ◌<◌}
 use mathlib.Core.Path.{◌≡◌, refl, sym, ◌∙◌, subst}
 use mathlib.Core.List.{List, [], ◌∷◌}
-use mathlib.Core.Bool.{true, false, cond}
+use mathlib.Core.Bool.{true, cond}
 use native.Mathlib.Omega.{arith}
 use native.Mathlib.Numerals.{add-one}
 use borrow.Author.Tests.{eq-eqb, ne_eqb}
@@ -30,9 +30,6 @@ use Rattle.table.proofs.HeldLaws.{held_slot, held_has}
 pub record Searching (image tag : List ℕ) (i : ℕ) : Type 0 where
   pub within : i ≤ length (chain_of image)
   pub onward : tag_position image tag (i + 1) (drop i (chain_of image)) ≡ tag_position image tag 1 (chain_of image)
-
-pub searching_start : (image tag : List ℕ) → Searching image tag 0
-searching_start image tag = record { within = omega arith; onward = refl }
 
 pub position_within : (image tag : List ℕ) (p : ℕ) (slots : List ℕ) → tag_position image tag (suc p) slots ≤ p + length slots
 unfolding tag_position
@@ -64,11 +61,8 @@ module _ (image tag : List ℕ) (n i : ℕ) (ok : check_of image ≡ Blocks n) (
       let o : tag_position image tag (i + 1) (drop i (chain_of image)) ≡ 0 = rw (z, drop-length) in
       sym o ∙ r.onward
 
--- checks 50 and 51
+-- check 51, and a tag that was found
 module _ (image tag : List ℕ) where
-  pub tag_50 : tag_form tag ≡ false → Refused 50 Header ≡ tag_checks image tag
-  tag_50 f = simp f
-
   pub tag_51 : (p : ℕ) → tag_form tag ≡ true → p ≡ tag_position image tag 1 (chain_of image) → p ≡ 0 → Refused 51 Header ≡ tag_checks image tag
   tag_51 p f g z = simp (f, sym g ∙ z)
 
@@ -88,12 +82,16 @@ module _ (image tag : List ℕ) where
   unfolding find_of
   find_checks n e = simp e
 
+-- a position is one of the chain, or 0
+pub position_most : (image tag : List ℕ) → tag_position image tag 1 (chain_of image) ≤ length (chain_of image)
+position_most image tag = omega (arith, position_within image tag 0 (chain_of image))
+
 -- the slot at a position that was found
 module _ (image tag : List ℕ) (count : ℕ) (slots positions : List ℕ) (ok : Accepted image count slots positions) (p : ℕ)
     (is : p ≡ tag_position image tag 1 (chain_of image)) (some : p ≡ 0 → ⊥) where
   pub found_index : p - 1 < count
   found_index =
-      let w : p ≤ 0 + length (chain_of image) = rw (← is) at (position_within image tag 0 (chain_of image)) in
+      let w : p ≤ length (chain_of image) = rw (← is) at (position_most image tag) in
       omega (arith, ok.chain.counted)
 
   pub found_slot : FoundSlot image (At p) (get_or slots (p - 1) 0)

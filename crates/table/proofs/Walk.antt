@@ -54,6 +54,13 @@ unmet_none (suc n) met e slot p h =
     (λ q. unmet_none n met (simp m at e) slot p (omega (arith, eqb-false slot (suc n) q))))
     (λ m. let z : suc (unmet n met) ≡ 0 = simp m at e in absurd (omega arith))
 
+-- where it does not matter what comes of going on, it does not matter how many slots are left
+walk_halts : (left : ℕ) (image met : List ℕ) (from : Place) (at : ℕ) (end : Walked) → ((later : Walked) → at_link image met from at later ≡ end)
+    → walk_in left image met from at ≡ end
+unfolding walk_in
+walk_halts zero image met from at end h = h _
+walk_halts (suc left) image met from at end h = h _
+
 walk_rule : (image met : List ℕ) (from : Place) (at : ℕ)
     → walk_from image met from at ≡ at_link image met from at (walk_from image (met ++ (at ∷ [])) (Slot at) (next_of image at))
 unfolding walk_in
@@ -62,9 +69,9 @@ walk_rule image met from at = go (unmet (slot_count image) met) refl
     go : (left : ℕ) → unmet (slot_count image) met ≡ left
         → walk_in left image met from at ≡ at_link image met from at (walk_from image (met ++ (at ∷ [])) (Slot at) (next_of image at))
     go left e =
-        by_test (eqb at 0) (λ z. elim left [ zero ↦ simp z | suc r ↦ simp z ])
-        (λ z. by_test (ltb (slot_count image) at) (λ h. elim left [ zero ↦ simp (z, h) | suc r ↦ simp (z, h) ])
-        (λ h. by_test (among at met) (λ m. elim left [ zero ↦ simp (z, h, m) | suc r ↦ simp (z, h, m) ])
+        by_test (eqb at 0) (λ z. walk_halts left image met from at _ (λ later. simp z))
+        (λ z. by_test (ltb (slot_count image) at) (λ h. walk_halts left image met from at _ (λ later. simp (z, h)))
+        (λ h. by_test (among at met) (λ m. walk_halts left image met from at _ (λ later. simp (z, h, m)))
         (λ m. on left (unmet_more (slot_count image) met at (omega (arith, eqb-false at 0 z)) (ltb-false _ _ h) m ∙ e) z h m)))
       where
         on : (left : ℕ) → suc (unmet (slot_count image) (met ++ (at ∷ []))) ≡ left → eqb at 0 ≡ false → ltb (slot_count image) at ≡ false → among at met ≡ false

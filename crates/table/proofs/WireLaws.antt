@@ -8,7 +8,7 @@ use native.Mathlib.Omega.{arith}
 use borrow.Author.Tests.{eqb-true}
 use lib.Dec.{ltb, eqb}
 use Rattle.membership.specs.Membership.{among}
-use Rattle.membership.proofs.Logic.{by_test, and_left, and_right}
+use Rattle.membership.proofs.Logic.{by_test, and_left}
 use Rattle.membership.proofs.AmongLaws.{all_among}
 use Rattle.words.specs.Word.{number_at}
 use Rattle.words.proofs.ZeroLaws.{zero_at_lem, zero_split, zero_pair}
@@ -43,10 +43,6 @@ none_frame chain slot code h = simp (and_left (eqb slot 0) (eqb code 0) h)
 pub zero_off_chain : (image : List ℕ) → among 0 (chain_of image) ≡ false
 zero_off_chain image =
     by_test (among 0 (chain_of image)) (λ m. absurd (omega (arith, (all_among (slot_count image) (chain_of image) 0 (chain_in image) m).0))) (λ m. m)
-
--- no wire is as it should be
-pub wire_none : (chain : List ℕ) (slot code : ℕ) → no_wire slot code ≡ true → wire_ok chain slot code ≡ true
-wire_none chain slot code h = simp (and_left (eqb slot 0) (eqb code 0) h) (and_right (eqb slot 0) (eqb code 0) h)
 
 -- any other is, where its slot is on the chain and its code has no other bits
 pub wire_some : (image : List ℕ) (slot code : ℕ) → no_wire slot code ≡ false

@@ -9,7 +9,7 @@ ghost use Rattle.table.specs.Blocks.{from_frame, wire_of, blocks_of, block_at, c
 use image::{ABORT_WIRE_OFFSET, KIND_OFFSET, MOST_SLOTS, START_WIRE_OFFSET, slot_byte, slot_start};
 
 // An input: flag 0 busy, 1 done, 2 error or 3 aborted of the block at a position. Position 0: the input bit of the frame.
-#[derive(Drop)]
+#[derive(Clone, Copy)]
 pub struct Wire {
     pub position: u8,
     pub flag: u8,
@@ -17,7 +17,7 @@ pub struct Wire {
 }
 
 // What a call reads of a block: its kind and its two wires.
-#[derive(Drop)]
+#[derive(Clone, Copy)]
 pub struct BlockConfig {
     pub kind: u8,
     pub start: Wire,

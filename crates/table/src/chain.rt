@@ -10,7 +10,7 @@ use image::{MOST_SLOTS, SLOT_COUNT_OFFSET};
 use walker::slot_after;
 
 // What a walk finds, and the number of slots met.
-#[derive(Drop)]
+#[derive(Clone, Copy)]
 pub struct ChainWalk {
     pub verdict: Verdict,
     pub count: usize,

@@ -12,7 +12,7 @@ use crate::spare::check_spares;
 use image::MOST_SLOTS;
 
 // The number of blocks, or a refusal.
-#[derive(Drop)]
+#[derive(Clone, Copy)]
 pub enum Checked {
     Blocks(usize),
     Refused(u8, Place),

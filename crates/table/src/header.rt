@@ -7,6 +7,7 @@ use image::{
     HEADER_LENGTH, HEADER_ZERO_OFFSET, MOST_SLOTS, SLOT_COUNT_OFFSET, SLOT_LENGTH, VERSION_OFFSET,
 };
 
+#[tactic(auto, unfolding(crate::specs::Header::header_check))]
 pub fn check_header(image: &[u8]) -> Verdict
     ensures { result ≡ header_check image.now }
 {

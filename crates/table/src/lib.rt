@@ -1,3 +1,5 @@
+#![tactic(auto)]
+
 // The table side of the lane engine: the image, its checks, lookup, and the table as a list of blocks.
 // Each module has its rules in specs/ and its proofs in proofs/ under the same name.
 

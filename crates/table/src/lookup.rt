@@ -11,14 +11,14 @@ use crate::tag::{tag_form, tag_number};
 use image::{MOST_SLOTS, SLOT_LENGTH, slot_start};
 
 // The position of a tag, or a refusal.
-#[derive(Drop)]
+#[derive(Clone, Copy)]
 pub enum Found {
     At(usize),
     Refused(u8, Place),
 }
 
 // What find answers, and the slot that it found.
-#[derive(Drop)]
+#[derive(Clone, Copy)]
 pub struct Located {
     pub found: Found,
     pub slot: u8,
@@ -49,6 +49,7 @@ pub fn tag_position(
 }
 
 // Checks 50 and 51 of an accepted table, and the slot for show.
+#[tactic(auto, using(crate::proofs::SearchLaws::position_most))]
 fn locate_tag(
     image: &[u8],
     tag: &[u8],
@@ -66,7 +67,8 @@ fn locate_tag(
         };
     }
     let position = tag_position(image, tag, slots, positions, count);
-    if position == 0 {
+    let unknown = position == 0;
+    if unknown {
         return Located {
             found: Found::Refused(51, Place::Header),
             slot: 0,

@@ -3,7 +3,7 @@ ghost use Rattle.std.specs.Prelude.{◌≡◌};
 ghost use Rattle.table.specs.Place.{place_number};
 
 // Header: no slot, position or event is named. Event: an event of a journal by its number, from 1.
-#[derive(Drop)]
+#[derive(Clone, Copy)]
 pub enum Place {
     Header,
     Slot(u8),
@@ -12,7 +12,7 @@ pub enum Place {
 }
 
 // A group of checks passes, or its first that fails gives its number and place.
-#[derive(Drop)]
+#[derive(Clone, Copy)]
 pub enum Verdict {
     Passed,
     Failed(u8, Place),

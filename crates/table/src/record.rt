@@ -127,6 +127,7 @@ fn is_repeated(
 }
 
 // Checks 7 to 10 of the record of block i. A mark of 0 in its tag's place says that no earlier block has its tag.
+#[tactic(auto, unfolding(crate::specs::Record::record_check))]
 fn check_record(
     image: &[u8],
     slots: &[u8; MOST_SLOTS],

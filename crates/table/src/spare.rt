@@ -38,7 +38,8 @@ pub fn check_spares(image: &[u8], positions: &[u8; MOST_SLOTS + 1], count: usize
     ensures { result ≡ spares_check image.now }
 {
     let n = image[SLOT_COUNT_OFFSET];
-    if count == n as usize {
+    let none_spare = count == n as usize;
+    if none_spare {
         return Verdict::Passed;
     }
     let mut slot: u8 = 1;
