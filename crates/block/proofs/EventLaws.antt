@@ -97,19 +97,19 @@ call_jobs {k} {i} {e} {r} {o} h c = (events (settled (settled_of k (entry_fits e
 
 -- turns that begin with no job open, of at most two events; and turns that begin with one open and have no start
 events_of_none : {k : ℕ} {q : Option ℕ} (job : ℕ) {es : List Event} → Turns k nil es q → length es ≤ 2 → StartsHave job es → CallEvents k job es
-events_of_none job end l s = none
-events_of_none {k} job (turn v h end) l (one u j s) = let a = start_turn k v h in starts v a.0 (j a.0) a.1
-events_of_none {k} job (turn v h (turn w g end)) l (one u j s) =
+events_of_none job {es = []} t l s = none
+events_of_none {k} job {es = _ ∷ []} (turn v h t) l (one u j s) = let a = start_turn k v h in starts v a.0 (j a.0) a.1
+events_of_none {k} job {es = _ ∷ _ ∷ []} (turn v h (turn w g t)) l (one u j s) =
     let a = start_turn k v h in
     let b = finish_turn k v.job w (rw a.0 at g) in
     both v w a.0 (j a.0) a.1 b.0 (b.2 ∙ j a.0) b.1
-events_of_none job (turn v h (turn w g (turn x f t))) l s = let z : ⊥ = omega arith in absurd z
+events_of_none job {es = v ∷ w ∷ x ∷ es} t l s = let z : ⊥ = omega arith in absurd z
 
 events_of_some : {k j : ℕ} {q : Option ℕ} (job : ℕ) {es : List Event} → Turns k (some j) es q → has_start es ≡ false → CallEvents k job es
 unfolding has_start
-events_of_some job end n = none
-events_of_some {k} {j} job (turn v h end) n = let a = finish_turn k j v h in finishes v a.0 a.1
-events_of_some {k} {j} job (turn v h (turn w g t)) n =
+events_of_some job {es = []} t n = none
+events_of_some {k} {j} job {es = _ ∷ []} (turn v h t) n = let a = finish_turn k j v h in finishes v a.0 a.1
+events_of_some {k} {j} job {es = _ ∷ _ ∷ _} (turn v h (turn w g t)) n =
     let none_open = finish_not_start v (finish_turn k j v h).0 in
     let f = (start_turn k w (rw none_open at g)).0 in
     never (sym (rw f (or_right (is_start v) true refl)) ∙ n)

@@ -5,8 +5,7 @@ use mathlib.Core.Logic.{◌≢◌}
 use mathlib.Core.Path.{◌≡◌, refl, ap, sym, ◌∙◌}
 use lib.Dec.{eqb, leb}
 use borrow.Author.Tests.{eqb-true}
-use Rattle.kind.specs.Kind.{is_edge, has_abort, can_abort, has_time_limit, has_time_out, is_continuous}
-use Rattle.clock.specs.Clock.{most_elapsed}
+use Rattle.kind.specs.Kind.{is_edge, has_abort, can_abort, has_time_out, is_continuous}
 use Rattle.clock.specs.declared.Timer.{Timer}
 use Rattle.block.specs.Record.{Dormant, Executing, Done, Error, Aborting, Aborted, Resetting, TimedOut, at_step}
 use Rattle.block.specs.Sound.{busy_only, done_only, error_only, aborted_only, implies, zeroed, flags_fit, code_sound, request_sound, step_sound, times_sound, sound}
@@ -143,19 +142,8 @@ module _ (k : ℕ) (j l t : ℕ) (w : Timer) where
     reset_aborted false false false false h g f =
         let r = rec Resetting (flags_of false false false false) q j c l t w in no_flag (not (is_edge k)) (code_sound k r) (request_sound k r) (step_sound k r) (times_sound k r)
 
--- no stored time
-no_times : (elapsed limit time_out x y : Bool) → limit && time_out ≡ true → elapsed ≡ elapsed && (limit || x) && (time_out || y)
-no_times elapsed false time_out x y h = none h
-no_times elapsed true false x y h = none h
-no_times true true true x y h = refl
-no_times false true true x y h = refl
-
 -- the laws of a record, step by step
 module _ (k : ℕ) (r : Record) where
-  pub times_none : eqb r.limit 0 && eqb r.timeout 0 ≡ true → leb r.timer.elapsed most_elapsed ≡ times_sound k r
-  unfolding times_sound
-  times_none h = no_times (leb r.timer.elapsed most_elapsed) (eqb r.limit 0) (eqb r.timeout 0) (is_edge k && has_time_limit k) (is_edge k && has_time_out k) h
-
   pub at_step_lem : (n : ℕ) → r.step ≡ n → sound k r ≡ sound k (at_step n r)
   at_step_lem n h = ap (λ (m : ℕ). sound k (at_step m r)) h
 

@@ -14,7 +14,7 @@ use crate::pass::Pass;
 use crate::record::Record;
 
 // What a call leaves: the record, its events (the first `count` of the two), the pieces used and the passes.
-#[derive(Drop)]
+#[derive(Clone, Copy)]
 pub struct CallResult {
     pub next: Record,
     pub first: Event,
@@ -158,7 +158,8 @@ fn from_executing(kind: u8, i: Inputs, e: PackedEntry, from: CallResult) -> Call
     if a.next.step == Record::EXECUTING {
         let worked = crate::executing::executing(kind, i, e, a.next);
         a = a.add(worked);
-        if !worked.again {
+        let stops = !worked.again;
+        if stops {
             return a;
         }
     }
@@ -171,7 +172,8 @@ fn from_aborting(kind: u8, i: Inputs, e: PackedEntry, from: CallResult) -> CallR
     ensures { Finished kind i (entry_of e) from (outcome_of result) }
 {
     let mut a = from;
-    if a.next.step == Record::ABORTING {
+    let is_aborting = a.next.step == Record::ABORTING;
+    if is_aborting {
         let aborted = crate::aborting::aborting(kind, e, a.next);
         a = a.add(aborted);
         if !aborted.again {

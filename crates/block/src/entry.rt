@@ -4,7 +4,7 @@ ghost use Rattle.block.specs.Entry.{code_fits};
 ghost use Rattle.block.specs.PackedEntry.{piece_of};
 
 // Start is Execute on an edge block and Enable on a level block.
-#[derive(Drop)]
+#[derive(Clone, Copy)]
 pub struct Inputs {
     pub start: bool,
     pub abort: bool,
@@ -13,7 +13,7 @@ pub struct Inputs {
 // The pieces of an entry.
 pub const PIECES: usize = 4;
 
-#[derive(Drop)]
+#[derive(Clone, Copy)]
 pub struct Piece {
     pub reply: u8,
     pub code: u16,
@@ -21,7 +21,7 @@ pub struct Piece {
 }
 
 // `inputs` are the frame's own bits; a wired input is resolved before the call.
-#[derive(Drop)]
+#[derive(Clone, Copy)]
 pub struct Entry {
     pub inputs: Inputs,
     pub count: u8,
@@ -36,7 +36,7 @@ pub struct Entry {
 }
 
 // The same with each piece as the number in its eight bytes, which is taken apart where the piece is used.
-#[derive(Drop)]
+#[derive(Clone, Copy)]
 pub struct PackedEntry {
     pub inputs: Inputs,
     pub count: u8,

@@ -5,7 +5,7 @@ ghost use Rattle.block.specs.Event.{no_event, event_of};
 use crate::record::Record;
 
 // `kind` 0 is no event.
-#[derive(Drop)]
+#[derive(Clone, Copy)]
 pub struct Event {
     pub kind: u8,
     pub code: u16,

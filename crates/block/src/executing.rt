@@ -10,7 +10,7 @@ use crate::record::Record;
 use clock::Timer;
 
 // Where the pieces of a call stand: the time counted, the last reply with its code, and the pieces used.
-#[derive(Drop)]
+#[derive(Clone, Copy)]
 pub struct Work {
     pub timer: Timer,
     pub reply: u8,
@@ -19,7 +19,7 @@ pub struct Work {
 }
 
 // What ends the pieces of a call: the bounds in force, and the call clock.
-#[derive(Drop)]
+#[derive(Clone, Copy)]
 pub struct Bounds {
     pub limit: u32,
     pub timeout: u32,
@@ -129,6 +129,7 @@ fn timed(w: Work, mut r: Record) -> Record
 }
 
 // The last reading and reply, judged.
+#[tactic(auto, unfolding(crate::specs::Executing::judge))]
 fn judge(continuous: bool, timeout: u32, w: Work, r: Record) -> Pass
     ensures { result ≡ judge continuous timeout w r }
 {

@@ -6,7 +6,7 @@ use crate::event::Event;
 use crate::record::Record;
 
 // What a pass leaves: the record, at most one event, the pieces used, and whether the call goes on.
-#[derive(Drop)]
+#[derive(Clone, Copy)]
 pub struct Pass {
     pub next: Record,
     pub event: Event,

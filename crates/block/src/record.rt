@@ -4,7 +4,7 @@ ghost use Rattle.block.specs.Record.{fresh_record, at_step, failed_with};
 
 use clock::Timer;
 
-#[derive(Drop)]
+#[derive(Clone, Copy)]
 pub struct Flags {
     pub busy: bool,
     pub done: bool,
@@ -13,7 +13,7 @@ pub struct Flags {
 }
 
 // `request` is the reset request; `limit` and `timeout` are the time limit and the time-out taken at the start.
-#[derive(Drop)]
+#[derive(Clone, Copy)]
 pub struct Record {
     pub step: u8,
     pub flags: Flags,

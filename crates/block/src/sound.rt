@@ -27,6 +27,7 @@ fn zeroed(r: Record) -> bool
 }
 
 // Elapsed within its bound, and a stored time only on the kinds that take it.
+#[tactic(auto, unfolding(crate::specs::Sound::times_sound))]
 pub fn times_sound(kind: u8, r: Record) -> bool
     ensures { result ≡ times_sound kind r }
 {
