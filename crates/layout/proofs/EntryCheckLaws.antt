@@ -1,15 +1,15 @@
 -- Check 31 on the bytes of a frame entry, with several bytes tested as one number. For `entry_bytes` and the functions that it calls.
-use Prim.Native.Nat.{ℕ, ◌+◌, ◌*◌, ◌≤◌, ◌<◌}
+use Prim.Native.Nat.{ℕ, ◌+◌, ◌*◌, ◌≤◌}
 use mathlib.Core.Path.{◌≡◌, refl, ap, sym, ◌∙◌}
-use mathlib.Core.Bool.{Bool, true, false, ◌&&◌, and-true, and-false, or-false}
+use mathlib.Core.Bool.{Bool, true, false, ◌&&◌, and-false}
 use mathlib.Core.List.{List}
 use native.Mathlib.Omega.{arith}
-use lib.Dec.{eqb, ltb, leb}
+use lib.Dec.{eqb, leb}
 use lib.ListN.{length}
-use borrow.Author.Tests.{ne_eqb, lt-ltb, le-ltb}
+use borrow.Author.Tests.{ne_eqb, le-ltb}
 use Rattle.words.specs.Word.{number_at, zero_at}
 use Rattle.words.proofs.ZeroLaws.{zero_at_lem, zero_byte, zero_split, zero_last}
-use Rattle.block.specs.Entry.{Complete, ErrorReply, most_pieces, code_fits, head_fits, piece_form, zero_piece, piece_fits, pieces_fit, entry_fits}
+use Rattle.block.specs.Entry.{ErrorReply, most_pieces, code_fits, head_fits, piece_form, zero_piece, piece_fits, pieces_fit, entry_fits}
 use Rattle.block.specs.declared.entry.Piece.{Piece}
 use Rattle.layout.specs.Buffer.{entry_length, byte_at}
 use Rattle.layout.specs.EntryLayout.{piece_length, head_length, piece_field, decode_piece, piece_zero, entry_offset, piece_offset, decode_entry, head_form, entry_form, entry_bytes}
@@ -46,10 +46,7 @@ module _ (s : List ℕ) (at : ℕ) (l : at + piece_length ≤ length s) where
       first false true code clock = refl
       first false false code clock = refl
 
--- by the count
-pub piece_counted : (n i : ℕ) (p : Piece) (zero : Bool) → i < n → zero && piece_form p ≡ zero && piece_fits n i p
-piece_counted n i p zero h = rw (lt-ltb i n h) (ap (λ (form : Bool). zero && form) (sym (or-false (piece_form p))))
-
+-- past the count
 pub piece_uncounted : (n i : ℕ) (p : Piece) (zero : Bool) → n ≤ i → zero && zero_piece p ≡ zero && piece_fits n i p
 piece_uncounted n i p zero h = rw (le-ltb i n h)
 
@@ -84,22 +81,6 @@ module _ (s : List ℕ) where
       → code_fits ErrorReply abort_code && eqb (number_at 2 s entry_offset.unnamed_pair) 0 && eqb (number_at 4 s entry_offset.unnamed_quad) 0 ≡ code_test
   code_error e =
       λ i. code_fits (sym e i) abort_code && sym (zero_at_lem 2 entry_offset.unnamed_pair s) i && sym (zero_at_lem 4 entry_offset.unnamed_quad s) i
-
-  pub head_tests : ltb (byte_at s entry_offset.inputs) 4 && leb (byte_at s entry_offset.count) most_pieces && leb abort_reply ErrorReply
-      && leb (byte_at s entry_offset.reset_reply) Complete && code_test
-      ≡ head_test s
-  unfolding decode_entry
-  head_tests =
-      ordered (ltb (byte_at s entry_offset.inputs) 4) (zero_at 2 s entry_offset.unnamed_pair) (zero_at 4 s entry_offset.unnamed_quad)
-      (leb (byte_at s entry_offset.count) most_pieces) (leb abort_reply ErrorReply) (leb (byte_at s entry_offset.reset_reply) Complete) (code_fits abort_reply abort_code)
-    where
-      ordered : (i p q n a r c : Bool) → i && n && a && r && (c && p && q) ≡ i && p && q && (n && a && r && c)
-      ordered false p q n a r c = refl
-      ordered true p q false a r c = sym (and-false (p && q))
-      ordered true p q true false r c = sym (and-false (p && q))
-      ordered true p q true true false c = sym (and-false (p && q))
-      ordered true p q true true true false = sym (and-false (p && q))
-      ordered true p q true true true true = sym (and-true (p && q))
 
 -- no pieces: four numbers of eight bytes
 abbrev zero_place : List ℕ → ℕ → Bool

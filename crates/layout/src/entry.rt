@@ -104,6 +104,7 @@ fn abort_code_fits(s: &[u8]) -> bool
 }
 
 // What stands before the pieces: the fields of one byte, each with its own return, then the abort code and the unnamed bytes.
+#[tactic(auto, unfolding(crate::specs::EntryLayout::decode_entry))]
 fn head_fits(s: &[u8]) -> bool
     requires { entry_length ≤ length s.now }
     ensures { result ≡ head_form s.now && head_fits (decode_entry s.now) }
@@ -235,7 +236,7 @@ fn put_piece(s: &mut [u8], at: usize, p: Piece)
     ensures { s.new ≡ put at (encode_piece p) s.old }
 {
     let b = encode_piece(p);
-    bytes::copy(&b, &mut s[at..]);
+    words::copy(&b, &mut s[at..]);
 }
 
 // The four pieces are written after the head.
@@ -265,7 +266,7 @@ pub fn write_entry(out: &mut [u8], e: Entry)
     ensures { out.new ≡ encode_entry e ++ drop entry_length out.old }
 {
     let head = encode_head(e);
-    bytes::copy(&head, out);
+    words::copy(&head, out);
     let pieces = e.pieces;
     put_tail(out, pieces, e.job);
 }

@@ -16,7 +16,7 @@ pub const CODE_OFFSET: usize = 2;
 pub const JOB_OFFSET: usize = 4;
 
 // An event with the position of its block.
-#[derive(Drop)]
+#[derive(Clone, Copy)]
 pub struct Posted {
     pub position: u8,
     pub event: Event,
@@ -36,7 +36,7 @@ pub fn put_event(journal: &mut [u8], at: usize, position: u8, v: Event)
     ensures { journal.new ≡ put at (encode_event position v) journal.old }
 {
     let head = encode_head(position, v);
-    bytes::copy(&head, &mut journal[at..]);
+    words::copy(&head, &mut journal[at..]);
     crate::job::put_job(journal, at + JOB_OFFSET, v.job);
 }
 

@@ -9,5 +9,5 @@ pub fn put_job(s: &mut [u8], at: usize, job: u64)
     ensures { s.new ≡ put at (bytes job_width job) s.old }
 {
     let b = words::u64_bytes(job);
-    bytes::copy(&b, &mut s[at..]);
+    words::copy(&b, &mut s[at..]);
 }

@@ -1,3 +1,5 @@
+#![tactic(auto)]
+
 // Records, frame entries, report entries and events as bytes, and back.
 pub mod job; // the job in each of them
 pub mod record; // the state record

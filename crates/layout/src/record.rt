@@ -129,7 +129,7 @@ pub fn put_record(s: &mut [u8], at: usize, r: Record)
     ensures { s.new ≡ put at (encode_record r) s.old }
 {
     let head = encode_head(r);
-    bytes::copy(&head, &mut s[at..]);
+    words::copy(&head, &mut s[at..]);
     crate::job::put_job(s, at + JOB_OFFSET, r.job);
 }
 
@@ -144,7 +144,7 @@ pub fn put_timer(s: &mut [u8], at: usize, timer: Timer)
         last[0], last[1], last[2], last[3], elapsed[0], elapsed[1], elapsed[2], elapsed[3],
         elapsed[4], elapsed[5], elapsed[6], elapsed[7],
     ];
-    bytes::copy(&b, &mut s[at + LAST_OFFSET..]);
+    words::copy(&b, &mut s[at + LAST_OFFSET..]);
 }
 
 // The unnamed bytes and bits, and the request.

@@ -46,7 +46,7 @@ pub fn write_report(out: &mut [u8], a: CallResult)
     ensures { out.new ≡ encode_report (outcome_of a) ++ drop report_length out.old }
 {
     let head = encode_head(a);
-    bytes::copy(&head, out);
+    words::copy(&head, out);
     crate::job::put_job(out, JOB_OFFSET, a.next.job);
 }
 
@@ -56,6 +56,6 @@ pub fn write_working_report(out: &mut [u8], used: u8, job: u64)
     ensures { out.new ≡ working_report used job ++ drop report_length out.old }
 {
     let head = [BUSY_ALONE, used, 1, Record::EXECUTING, 0, 0, 0, 0];
-    bytes::copy(&head, out);
+    words::copy(&head, out);
     crate::job::put_job(out, JOB_OFFSET, job);
 }
