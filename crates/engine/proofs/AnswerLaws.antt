@@ -22,7 +22,7 @@ use Rattle.engine.specs.Serve.{Buffers, served_to}
 use Rattle.engine.specs.Scan.{ScanResult, answer_by_table, answer_by_checks, scanned, scan_blocks, scan_of, scan_answer}
 use Rattle.engine.specs.ScanAccepted.{StateFits, GivenFits}
 use Rattle.engine.specs.declared.scan.Scanned.{Scanned}
-use Rattle.engine.specs.declared.scan.Scanned.TheVariants.{Events, Refused as ScanRefused}
+use Rattle.engine.specs.declared.scan.Scanned.TheVariants.{Events}
 use Rattle.engine.proofs.ScanAccepted.{verify_passes}
 
 -- `table` is what the table checks answered

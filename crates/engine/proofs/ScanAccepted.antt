@@ -1,17 +1,16 @@
 -- Which scans are accepted: checks 20 to 41 pass exactly for a state, a frame, a report and a journal that fit, and then a scan over an accepted
 -- table answers with its events, at most two a block, and each of its calls is whole. For the run promise, and so that it is about scans that are
 -- accepted.
-use Prim.Native.Nat.{ℕ, ◌*◌, ◌<◌}
+use Prim.Native.Nat.{ℕ, ◌*◌}
 use native.Mathlib.Nat.{zero-add}
 use native.Mathlib.Omega.{arith}
-use mathlib.Core.Bool.{true}
 use mathlib.Core.List.{List}
 use mathlib.Core.Path.{◌≡◌, refl}
 use lib.Dec.{eqb, leb}
 use lib.ListN.{length}
 use borrow.Author.Tests.{eqb-true, leb-true, eq-eqb, le-leb}
 use Rattle.table.specs.Place.{require, then_check}
-use Rattle.table.specs.Blocks.{Block, blocks_of, block_at}
+use Rattle.table.specs.Blocks.{Block, blocks_of}
 use Rattle.table.specs.Check.{check_of}
 use Rattle.table.specs.declared.place.Place.{Place}
 use Rattle.table.specs.declared.place.Place.TheVariants.{Header}
@@ -20,9 +19,7 @@ use Rattle.table.specs.declared.place.Verdict.TheVariants.{Passed, Failed}
 use Rattle.table.specs.declared.check.Checked.{Checked}
 use Rattle.table.specs.declared.check.Checked.TheVariants.{Blocks as TableBlocks, Refused as TableRefused}
 use Rattle.table.proofs.Logic.{require_this, require_below, group_passes, rest_passes}
-use Rattle.layout.specs.Buffer.{record_length, entry_length, report_length, event_length, part}
-use Rattle.layout.specs.RecordLayout.{sound_bytes}
-use Rattle.layout.specs.EntryLayout.{entry_bytes}
+use Rattle.layout.specs.Buffer.{record_length, entry_length, report_length, event_length}
 use Rattle.engine.specs.Told.{Told}
 use Rattle.engine.specs.Verify.{state_sound, state_check, frame_form, frame_check, journal_length, lent_check, verify_of}
 use Rattle.engine.specs.Scan.{scan_blocks, scan_of}

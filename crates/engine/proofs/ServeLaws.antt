@@ -1,17 +1,15 @@
--- One block's step: step, flags and inputs by their bytes, the events of a call appended, and what a call leaves put together. For the proofs of
--- `input_of`, `idle_at`, `inputs_at`, `append_events`, `write_call` and `serve`.
+-- One block's step: step, flags and inputs by their bytes, the events of a call appended, and a block served. For the proofs of
+-- `input_of`, `idle_at`, `inputs_at`, `append_events` and `serve`.
 use Prim.Native.Nat.{ℕ, zero, suc, ◌+◌, ◌*◌, ◌≤◌}
-use native.Mathlib.Numerals.{add-one}
 use native.Mathlib.Omega.{arith}
 use mathlib.Core.List.{List, [], ◌∷◌, ◌++◌, append-nil}
 use mathlib.Core.Path.{◌≡◌, refl, ap, sym, ◌∙◌}
 use lib.Dec.{lit<}
 use lib.ListN.{length, take}
 use Rattle.table.specs.declared.blocks.BlockConfig.{BlockConfig}
-use Rattle.layout.specs.Buffer.{record_length, entry_length, report_length, event_length, byte_at, put}
-use Rattle.layout.specs.RecordLayout.{record_offset, decode_flags, encode_record, decode_record}
+use Rattle.layout.specs.Buffer.{record_length, entry_length, event_length, byte_at, put}
+use Rattle.layout.specs.RecordLayout.{record_offset, decode_flags, decode_record}
 use Rattle.layout.specs.EntryLayout.{entry_offset, decode_entry, decode_inputs}
-use Rattle.layout.specs.ReportLayout.{encode_report}
 use Rattle.layout.specs.EventLayout.{encode_event, encode_events}
 use Rattle.layout.proofs.BufferLaws.{put_nothing, put_next, part_byte}
 use Rattle.layout.proofs.EventLaws.{event_length_lem}
@@ -71,18 +69,6 @@ module _ (n position : ℕ) (first second : Event) (count : ℕ) (journal : List
       let p : put (event_length * n + event_length) y (put (event_length * n) x journal) ≡ put (event_length * n) (x ++ y) journal =
       put_next (event_length * n) event_length x y journal lx (omega arith) in
       rw (both z o, append-nil) (refl, g ∙ ap (put (event_length * n + event_length) y) h ∙ p)
-
--- what a call leaves in the buffers, put together
-pub written_is : (i : ℕ) (state report journal : List ℕ) (events : ℕ) (a : CallResult) (new_state new_report new_journal : List ℕ) (count : ℕ)
-    → new_state ≡ put (record_length * i) (encode_record a.next) state
-    → new_report ≡ put (report_length * i) (encode_report (outcome_of a)) report
-    → new_journal ≡ put (event_length * events) (encode_events (i + 1) (outcome_of a).events) journal
-    → count ≡ events + length (outcome_of a).events
-    → ◌≡◌ {A = Buffers} (record { state = new_state; report = new_report; journal = new_journal; events = count })
-    (written i (outcome_of a) (record { state = state; report = report; journal = journal; events = events }))
-written_is i state report journal events a new_state new_report new_journal count es er ej ec =
-    let f : new_journal ≡ put (event_length * events) (encode_events (suc i) (outcome_of a).events) journal = rw add-one at ej in
-    λ j. record { state = es j; report = er j; journal = f j; events = ec j }
 
 -- a block served: its call, and what the call leaves
 pub served_is : (b : BlockConfig) (i : ℕ) (frame : List ℕ) (before after : Buffers) (a : CallResult) → outcome_of a ≡ call_in b i frame before.state

@@ -20,7 +20,6 @@ use Rattle.layout.proofs.EntryLaws.{entry_fits_lem}
 use Rattle.layout.proofs.EventLaws.{events_length}
 use Rattle.block.specs.Entry.{Complete, ErrorReply, most_pieces, code_fits, head_fits, pieces_fit, entry_fits}
 use Rattle.block.specs.Call.{Outcome}
-use Rattle.block.specs.Sound.{sound}
 use Rattle.block.specs.declared.entry.Entry.{Entry}
 use Rattle.engine.specs.Told.{Told}
 use Rattle.engine.specs.Serve.{Buffers, entry_in, served, served_to}

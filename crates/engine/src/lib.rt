@@ -1,3 +1,5 @@
+#![tactic(auto)]
+
 // Fresh and the scan: the entry points over lent buffers.
 pub mod verify; // checks 20 to 41, which only read
 pub mod inputs; // wires and frame to the inputs of a call

@@ -13,7 +13,7 @@ use table::check::{Checked, check_table};
 use table::place::{Place, Verdict};
 
 // The number of events written, or a refusal.
-#[derive(Drop)]
+#[derive(Clone, Copy)]
 pub enum Scanned {
     Events(usize),
     Refused(u8, Place),
@@ -33,9 +33,9 @@ fn serve_all(
     requires accepted { Accepted image.now count slots.now positions.now }
     requires state_fits { StateFits (blocks_of image.now) state.old }
     requires given_fits { GivenFits (blocks_of image.now) (record { frame = frame.now }) report.old journal.old }
-    ensures { record { state = state.exit.now; report = report.new; journal = journal.new; events = result }
-        ≡ served_to (blocks_of image.now) (record { frame = frame.entry.now }) count
-        (record { state = state.entry.now; report = report.old; journal = journal.old; events = 0 }) }
+    ensures { record { state = state.new; report = report.new; journal = journal.new; events = result }
+        ≡ served_to (blocks_of image.now) (record { frame = frame.now }) count
+        (record { state = state.old; report = report.old; journal = journal.old; events = 0 }) }
 {
     let mut events = 0;
     let mut i = 0;
@@ -81,7 +81,7 @@ fn scan_blocks(
 ) -> Scanned
     requires { Accepted image.now count slots.now positions.now }
     ensures { record { answer = result; state = state.new; report = report.new; journal = journal.new }
-        ≡ scan_blocks (blocks_of image.now) state.old (record { frame = frame.entry.now }) report.old journal.old }
+        ≡ scan_blocks (blocks_of image.now) state.old (record { frame = frame.now }) report.old journal.old }
 {
     let verdict = verify(
         image,
@@ -111,15 +111,15 @@ pub fn scan(
     journal: &mut [u8],
 ) -> Scanned
     ensures answer { result
-        ≡ (scan_of image.now state.old (record { frame = frame.entry.now }) report.old journal.old).answer }
+        ≡ (scan_of image.now state.old (record { frame = frame.now }) report.old journal.old).answer }
     ensures numbers { scan_answer result
-        ≡ scan_answer (scan_of image.now state.old (record { frame = frame.entry.now }) report.old journal.old).answer }
+        ≡ scan_answer (scan_of image.now state.old (record { frame = frame.now }) report.old journal.old).answer }
     ensures state { state.new
-        ≡ (scan_of image.now state.old (record { frame = frame.entry.now }) report.old journal.old).state }
+        ≡ (scan_of image.now state.old (record { frame = frame.now }) report.old journal.old).state }
     ensures report { report.new
-        ≡ (scan_of image.now state.old (record { frame = frame.entry.now }) report.old journal.old).report }
+        ≡ (scan_of image.now state.old (record { frame = frame.now }) report.old journal.old).report }
     ensures journal { journal.new
-        ≡ (scan_of image.now state.old (record { frame = frame.entry.now }) report.old journal.old).journal }
+        ≡ (scan_of image.now state.old (record { frame = frame.now }) report.old journal.old).journal }
 {
     let mut slots = [0u8; MOST_SLOTS];
     let mut positions = [0u8; MOST_SLOTS + 1];

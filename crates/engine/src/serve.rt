@@ -69,7 +69,8 @@ fn append_events(journal: &mut [u8], events: usize, position: u8, a: CallResult)
         return events;
     }
     layout::event::put_event(journal, EVENT_BYTES * events, position, a.first);
-    if a.count == 1 {
+    let one_event = a.count == 1;
+    if one_event {
         return events + 1;
     }
     layout::event::put_event(
@@ -92,9 +93,9 @@ fn write_call(
 ) -> usize
     requires i_lt_most_slots { (i < most_slots) × (record_length * i + record_length ≤ length state.old) }
     requires has_room { HasRoom i events report.old journal.old }
-    ensures { record { state = state.exit.now; report = report.new; journal = journal.new; events = result }
+    ensures { record { state = state.new; report = report.new; journal = journal.new; events = result }
         ≡ written i (outcome_of a)
-        (record { state = state.entry.now; report = report.old; journal = journal.old; events = events }) }
+        (record { state = state.old; report = report.old; journal = journal.old; events = events }) }
 {
     let next = a.next;
     layout::record::put_record(state, RECORD_BYTES * i, next);
@@ -131,9 +132,9 @@ pub fn serve(
     requires accepted { Accepted image.now count slots.now positions.now × (i < count) }
     requires callable { Callable (config_at (blocks_of image.now) i).kind i frame.now state.old × Reached (config_at (blocks_of image.now) i) state.old }
     requires has_room { HasRoom i events report.old journal.old }
-    ensures { record { state = state.exit.now; report = report.new; journal = journal.new; events = result }
+    ensures { record { state = state.new; report = report.new; journal = journal.new; events = result }
         ≡ served (config_at (blocks_of image.now) i) i frame.now
-        (record { state = state.entry.now; report = report.old; journal = journal.old; events = events }) }
+        (record { state = state.old; report = report.old; journal = journal.old; events = events }) }
 {
     if idle_at(image, slots, positions, count, i, frame, &state[..]) {
         serve_idle(&state[..], &mut report[REPORT_BYTES * i..]);

@@ -111,7 +111,7 @@ pub fn verify(
 ) -> Verdict
     requires { Accepted image.now count slots.now positions.now }
     ensures { result
-        ≡ verify_of (blocks_of image.now) state.now (record { frame = frame.entry.now }) report.now journal.now }
+        ≡ verify_of (blocks_of image.now) state.now (record { frame = frame.now }) report.now journal.now }
 {
     let of_state = check_state(image, slots, positions, count, state);
     let Verdict::Passed = of_state else {
