@@ -1,4 +1,3 @@
-pub mod AdmitLaws
 pub mod CheckIsExact
 pub mod LoopLaws
 pub mod AnswerLaws

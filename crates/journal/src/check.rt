@@ -17,7 +17,7 @@ use table::check::{Checked, check_table};
 use table::place::{Place, Verdict};
 
 // The number of events, or a refusal.
-#[derive(Drop)]
+#[derive(Clone, Copy)]
 pub enum JournalChecked {
     Events(usize),
     Refused(u8, Place),

@@ -1,3 +1,5 @@
+#![tactic(auto)]
+
 // A journal of events checked against a table.
 pub mod turns; // which event of a block may come next
 pub mod check; // checks 70 and 71, the entry point

@@ -7,6 +7,7 @@ use block::event::Event;
 use block::record::Record;
 
 // Whether a kind has this event with this code.
+#[tactic(auto, unfolding(block::specs::Turns::admits))]
 fn admits(kind: u8, v: Event) -> bool
     ensures { result ≡ admits kind v }
 {
@@ -23,6 +24,7 @@ fn admits(kind: u8, v: Event) -> bool
 }
 
 // Whether it is the next event of a block of this kind: a start where no job is open, a finish of the open one.
+#[tactic(auto, unfolding(block::specs::Turns::takes_turn))]
 pub fn takes_turn(kind: u8, is_open: bool, job: u64, v: Event) -> bool
     ensures { result ≡ takes_turn kind (job_of is_open job) v }
 {
