@@ -1,5 +1,5 @@
 -- A frame made of an entry for each block: each is read back, and the frame passes its checks. For the scans that write a journal.
-use Prim.Native.Nat.{ℕ, zero, suc, ◌+◌, ◌*◌, ◌<◌}
+use Prim.Native.Nat.{ℕ, zero, suc, ◌*◌, ◌<◌}
 use native.Mathlib.Decide.{ℕ_discrete}
 use native.Mathlib.Omega.{arith}
 use mathlib.Core.Bool.{true}
@@ -23,13 +23,13 @@ frame_of f zero = []
 frame_of f (suc n) = frame_of f n ++ encode_entry (f n)
 
 module _ (f : ℕ → Entry) (fits : (i : ℕ) → EntryFits (f i)) where
-  entry_length : (i : ℕ) → length (encode_entry (f i)) ≡ entry_length
-  entry_length i = encode_length (f i) (fits i).four
+  entry_length_lem : (i : ℕ) → length (encode_entry (f i)) ≡ entry_length
+  entry_length_lem i = encode_length (f i) (fits i).four
 
   pub frame_length : (n : ℕ) → length (frame_of f n) ≡ entry_length * n
   unfolding frame_of
   frame_length zero = refl
-  frame_length (suc n) = length-append (frame_of f n) (encode_entry (f n)) ∙ omega (arith, frame_length n, entry_length n)
+  frame_length (suc n) = length-append (frame_of f n) (encode_entry (f n)) ∙ omega (arith, frame_length n, entry_length_lem n)
 
   pub frame_bytes : (n : ℕ) → Bytes (frame_of f n)
   unfolding frame_of
@@ -45,7 +45,7 @@ module _ (f : ℕ → Entry) (fits : (i : ℕ) → EntryFits (f i)) where
       by (yes e) before =
           rw e
           (ap (take entry_length) (drop_at (frame_of f n) (encode_entry (f n)) (entry_length * n) (frame_length n))
-          ∙ take_all entry_length (encode_entry (f n)) (omega (arith, entry_length n)))
+          ∙ take_all entry_length (encode_entry (f n)) (omega (arith, entry_length_lem n)))
       by (no m) before = part_left entry_length i (frame_of f n) (encode_entry (f n)) (omega (arith, frame_length n)) ∙ before (omega arith)
 
   pub frame_entry : (n i : ℕ) → i < n → entry_in (frame_of f n) i ≡ f i

@@ -28,7 +28,7 @@ use Rattle.journal.specs.Check.{OpenJobs, opened_by, is_good, first_bad}
 use Rattle.journal.proofs.CheckIsExact.{good_at, some_not_none, cons_not_nil}
 use Rattle.replay.specs.Written.{NoWires, EachAccepted, and_scan}
 use Rattle.replay.proofs.Moves.{at_rest, hold_entry, turn_entry, called_with, hold_call, Writes, turn_written, hold_form, turn_form, hold_fits, turn_fits}
-use Rattle.replay.proofs.OneScan.{scan_with, blocks, kind_at, record_at, written, Scanned, one_scan}
+use Rattle.replay.proofs.OneScan.{scan_with, kind_at, record_at, written, Scanned, one_scan}
 
 -- lists of events by their positions: none at any position, and just one
 none_at_all : (ps : List Posted) → ((n : ℕ) → events_at n ps ≡ []) → ps ≡ []
