@@ -74,7 +74,7 @@ fn copy_tag(out: &mut [u8], at: usize, image: &[u8], slot: u8)
     ensures { out.new ≡ put at (tag_of image.now slot) out.old }
 {
     let tag = words::u64_bytes(tag_number(image, slot));
-    bytes::copy(&tag, &mut out[at..]);
+    words::copy(&tag, &mut out[at..]);
 }
 
 // Block i is written to its slot.
@@ -92,7 +92,7 @@ fn encode_slot(
 {
     let at = HEADER_LENGTH + SLOT_LENGTH * i;
     let head = encode_fields(image, slots, positions, count, i);
-    bytes::copy(&head, &mut out[at..]);
+    words::copy(&head, &mut out[at..]);
     copy_tag(out, at + TAG_OFFSET, image, slots[i]);
 }
 
@@ -121,7 +121,7 @@ fn encode_header(out: &mut [u8], n: usize)
     ensures { out.new ≡ put 0 (encode_header n) out.old }
 {
     let header = [1, n as u8, 1, 0];
-    bytes::copy(&header, out);
+    words::copy(&header, out);
 }
 
 // A table without blocks: one zero slot.
@@ -130,7 +130,7 @@ fn encode_empty(out: &mut [u8])
     ensures { out.new ≡ encode_table [] }
 {
     let empty = [1, 1, 0, 0, 0, 0, 0, 0, 0, 0, 0, 0, 0, 0, 0, 0, 0, 0, 0, 0];
-    bytes::copy(&empty, out);
+    words::copy(&empty, out);
 }
 
 // The whole table, written to a buffer of its length.

@@ -21,7 +21,8 @@ pub fn tidy(image: &[u8], out: &mut [u8]) -> Checked
         return answer;
     };
     let length = encoded_length(count);
-    if out.len() != length {
+    let wrong_length = out.len() != length;
+    if wrong_length {
         return Checked::Refused(60, Place::Header);
     }
     encode_table(out, image, &slots, &positions, count);
