@@ -9,7 +9,7 @@ use mathlib.Core.Path.{◌≡◌, refl, ap, sym, ◌∙◌}
 use lib.Dec.{ltb, eqb}
 use lib.ListN.{length, take, get_or, length-append}
 use lib.Seq.{take-suc, length-take-le}
-use borrow.Author.Tests.{ltb-true, ltb-false, lt-ltb, le-ltb, eq-eqb, ne_eqb}
+use borrow.Author.Tests.{ltb-true, ltb-false, lt-ltb, le-ltb}
 use Rattle.membership.proofs.Logic.{by_test}
 use Rattle.layout.specs.Buffer.{put}
 use Rattle.layout.proofs.BufferLaws.{put_put, put_length, put_nothing}
@@ -152,14 +152,6 @@ decimal_reads n =
     }
 
 -- names
-pub without_space : (b : ℕ) → b ≡ space → without_spaces (b ∷ []) ≡ []
-unfolding without_spaces
-without_space b e = rw (eq-eqb b space e)
-
-pub without_letter : (b : ℕ) → (b ≡ space → ⊥) → without_spaces (b ∷ []) ≡ b ∷ []
-unfolding without_spaces
-without_letter b e = rw (ne_eqb b space e)
-
 pub without_short : (xs : List ℕ) → length (without_spaces xs) ≤ length xs
 unfolding without_spaces
 without_short [] = omega arith

@@ -1,3 +1,5 @@
+#![tactic(auto)]
+
 // Writers of text: each puts its bytes from the place `at` on, and answers where they end.
 ghost use Rattle.std.specs.Prelude.{[], ◌∷◌, ◌+◌, ◌<◌, ◌≤◌, length};
 ghost use Rattle.text.specs.Text.{decimal, without_spaces, Wrote};
@@ -23,6 +25,7 @@ pub fn put_decimal(out: &mut [u8], at: usize, n: u32) -> usize
 }
 
 // A byte, or nothing where it is a space.
+#[tactic(auto, unfolding(crate::specs::Text::without_spaces))]
 fn put_letter(out: &mut [u8], at: usize, b: u8) -> usize
     requires { at < length out.old }
     ensures { Wrote at (without_spaces (b ∷ [])) out.old result out.new }
