@@ -1,5 +1,5 @@
 -- The counts of a journal, one event more at a time, and that none exceeds the number of events: for the proofs of `tally` and `totals`.
-use Prim.Native.Nat.{ℕ, zero, suc, ◌+◌, ◌-◌, ◌*◌, ◌≤◌, ◌<◌}
+use Prim.Native.Nat.{ℕ, zero, suc, ◌+◌, ◌*◌, ◌≤◌, ◌<◌}
 use native.Mathlib.Decide.{ℕ_discrete}
 use native.Mathlib.Numerals.{add-one}
 use native.Mathlib.Nat.{add-zero}
@@ -31,18 +31,8 @@ module _ (position kind : ℕ) (h : has_count position kind ≡ true) where
   kind_bound : kind ≤ Withdrawn
   kind_bound = leb-true kind Withdrawn (and_right (leb position most_slots) (leb kind Withdrawn) h)
 
-  pub index_bound : tally_index position kind < tally_length
+  index_bound : tally_index position kind < tally_length
   index_bound = omega (arith, position_bound, kind_bound)
-
--- one event more
-pub counted_not : (counts : List ℕ) (position kind : ℕ) → has_count position kind ≡ false → counted counts position kind ≡ counts
-unfolding counted
-counted_not counts position kind h = rw h
-
-pub counted_one : (counts : List ℕ) (position kind : ℕ) → has_count position kind ≡ true → (i : ℕ) → i ≡ tally_index position kind
-    → set counts i (get_or counts i 0 + 1) ≡ counted counts position kind
-unfolding counted
-counted_one counts position kind h i e = rw (h, e) (ap (set counts (tally_index position kind)) (add-one (count_in counts position kind)))
 
 -- how many events of a kind a position has: of one event more, and no more than there are events
 one_event : (b c : Bool) (n : ℕ) (v : Event) → eqb v.kind n ≡ c → count_of n (cond b (v ∷ []) []) ≡ cond (b && c) 1 0

@@ -7,7 +7,7 @@ ghost use Rattle.figures.specs.Figures.{no_figures, plus, AtMost};
 use crate::tally::{TALLY_LENGTH, count_in};
 use block::event::Event;
 
-#[derive(Drop)]
+#[derive(Clone, Copy)]
 pub struct Figures {
     pub starts: u32,
     pub done: u32,
@@ -48,6 +48,7 @@ impl Figures {
 }
 
 // The figures of the block at a position.
+#[tactic(auto, unfolding(crate::specs::Figures::figures_by))]
 pub fn figures_at(counts: &[u32; TALLY_LENGTH], position: u8) -> Figures
     requires counts_len { length counts.now ≡ tally_length }
     requires position_le_most_slots { position ≤ most_slots }

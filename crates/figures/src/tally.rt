@@ -39,6 +39,7 @@ fn has_count(position: u8, kind: u8) -> bool
 }
 
 // One event more. One of a position or kind that has no count, which no accepted journal has, is not counted.
+#[tactic(auto, unfolding(crate::specs::Tally::counted))]
 fn count_event(counts: &mut [u32; TALLY_LENGTH], position: u8, kind: u8)
     requires counts_len { length counts.old ≡ tally_length }
     requires count_fits { CountFits counts.old position kind }
