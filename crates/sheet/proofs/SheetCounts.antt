@@ -1,5 +1,5 @@
 -- The figures of an accepted journal count its events: the statement is in specs/SheetCounts.antt. For the reader, and for whoever rests on a sheet.
-use Prim.Native.Nat.{ℕ, zero, suc, ◌+◌, ◌-◌, ◌≤◌, ◌<◌}
+use Prim.Native.Nat.{ℕ, zero, suc, ◌+◌, ◌≤◌, ◌<◌}
 use native.Mathlib.Decide.{ℕ_discrete, dec_lt}
 use native.Mathlib.Omega.{arith}
 use mathlib.Core.Bool.{cond}

@@ -6,15 +6,14 @@ use native.Mathlib.Omega.{arith}
 use mathlib.Core.List.{List, ◌++◌}
 use mathlib.Core.Path.{◌≡◌, refl, ap, ◌∙◌}
 use lib.ListN.{length}
-use Rattle.image.specs.Image.{most_slots}
 use Rattle.table.specs.Blocks.{Block, block_at}
 use Rattle.text.specs.Ascii.{ascii}
 use Rattle.text.specs.Text.{Wrote}
 use Rattle.figures.specs.Figures.{no_figures, plus, AtMost}
 use Rattle.sheet.specs.Line.{line, line_room}
-use Rattle.sheet.specs.Sheet.{lines_to, sums_to, sheet_of, sheet_room}
+use Rattle.sheet.specs.Sheet.{lines_to, sums_to, sheet_of}
 use Rattle.figures.specs.declared.figures.Figures.{Figures}
-use Rattle.text.proofs.TextLaws.{wrote_nothing, wrote_same_length, wrote_then}
+use Rattle.text.proofs.TextLaws.{wrote_nothing, wrote_then}
 
 -- sums of figures that are not too large
 pub sums_most : (n count : ℕ) (figures : ℕ → Figures) → ((k : ℕ) → k < count → AtMost n (figures (suc k))) → (k : ℕ) → k ≤ count → AtMost (n * k) (sums_to figures k)
@@ -46,9 +45,6 @@ unfolding lines_to sums_to
 listing_start blocks figures count out₀ = record { within = omega arith; wrote = wrote_nothing 0 out₀ (omega arith); few = omega arith; summed = refl }
 
 module _ {blocks : List Block} {figures : ℕ → Figures} {count : ℕ} {out₀ out : List ℕ} {end : ℕ} {sums : Figures} {i : ℕ} (h : Listing blocks figures count out₀ out end sums i) where
-  pub listing_room : i < count → count ≤ most_slots → sheet_room ≤ length out₀ → end + line_room ≤ length out
-  listing_room l most room = omega (arith, h.few, wrote_same_length h.wrote)
-
   pub listing_on : i < count → {f more : Figures} {next : List ℕ} {mid : ℕ} → f ≡ figures (i + 1) → Wrote end (line (block_at blocks i).tag f) out mid next → mid ≤ end + line_room
       → more ≡ plus sums f → Listing blocks figures count out₀ next mid more (i + 1)
   unfolding lines_to sums_to
@@ -62,11 +58,6 @@ module _ {blocks : List Block} {figures : ℕ → Figures} {count : ℕ} {out₀
         few = omega (arith, h.few);
         summed = s ∙ (λ t. plus (h.summed t) (g t));
       })
-
-  pub listing_end : count ≤ i → Wrote 0 (lines_to blocks figures count) out₀ end out × ((end ≤ line_room * count) × (sums ≡ sums_to figures count))
-  listing_end l =
-      let e : i ≡ count = omega (arith, h.within) in
-      (rw e at h.wrote, (omega (arith, h.few, h.within), rw e at h.summed))
 
 -- the last line after them
 pub last_line : (blocks : List Block) (figures : ℕ → Figures) {count : ℕ} {out₀ out next : List ℕ} {end mid : ℕ} {sums : Figures} → length blocks ≡ count

@@ -1,3 +1,5 @@
+#![tactic(auto)]
+
 // The sheet of shift totals: from a table and a journal to the bytes that are printed.
 pub mod line; // one line
 pub mod sheet; // all lines

@@ -16,7 +16,7 @@ use image::{MOST_SLOTS, TAG_LENGTH, TAG_OFFSET, slot_start};
 pub const SHEET_ROOM: usize = LINE_ROOM * (MOST_SLOTS + 1);
 
 // Where the lines end, and the column sums.
-#[derive(Drop)]
+#[derive(Clone, Copy)]
 struct Lines {
     end: usize,
     sums: Figures,

@@ -71,7 +71,8 @@ pub fn totals(input: &[u8], out: &mut [u8; SHEET_ROOM]) -> usize
     ensures text { out.new ≡ put 0 (totals_of input.now) out.old }
     ensures within { (result ≤ length out.new) × (result ≡ length (take result out.new)) }
 {
-    if MOST_INPUT < input.len() {
+    let too_long = MOST_INPUT < input.len();
+    if too_long {
         return put_refused(out, 75);
     }
     let at = table_length(input);
