@@ -1,4 +1,6 @@
-// The entry points for C. Each answer is one number: a value, or a refusal's number × 2^32 + its place; 2^32 - 1 stands for every greater value or place.
+#![tactic(auto)]
+
+// The entry points, which crate lane_c exports to C. Each answer is one number: a value, or a refusal's number × 2^32 + its place; 2^32 - 1 stands for every greater value or place.
 ghost use Rattle.std.specs.Prelude.{◌≡◌};
 ghost use Rattle.table.specs.Place.{place_number, refusal};
 ghost use Rattle.table.specs.Check.{check_of, checked_answer};
@@ -29,6 +31,7 @@ fn saturate(n: usize) -> u64
     NUMBER_WEIGHT - 1
 }
 
+#[tactic(auto, unfolding(crate::specs::Packed::packed, crate::specs::Packed::fitted))]
 fn pack_refusal(number: u8, place: Place) -> u64
     ensures { result ≡ packed (fitted (refusal number (place_number place))) }
 {
@@ -36,6 +39,7 @@ fn pack_refusal(number: u8, place: Place) -> u64
     (number as u64) * NUMBER_WEIGHT + k
 }
 
+#[tactic(auto, unfolding(crate::specs::Packed::packed, crate::specs::Packed::fitted))]
 fn pack_checked(answer: Checked) -> u64
     ensures { result ≡ packed (fitted (checked_answer answer)) }
 {
@@ -45,6 +49,7 @@ fn pack_checked(answer: Checked) -> u64
     }
 }
 
+#[tactic(auto, unfolding(crate::specs::Packed::packed, crate::specs::Packed::fitted))]
 fn pack_found(answer: Found) -> u64
     ensures { result ≡ packed (fitted (found_answer answer)) }
 {
@@ -54,6 +59,7 @@ fn pack_found(answer: Found) -> u64
     }
 }
 
+#[tactic(auto, unfolding(crate::specs::Packed::packed, crate::specs::Packed::fitted))]
 fn pack_scanned(answer: Scanned) -> u64
     ensures { result ≡ packed (fitted (scan_answer answer)) }
 {
@@ -63,6 +69,7 @@ fn pack_scanned(answer: Scanned) -> u64
     }
 }
 
+#[tactic(auto, unfolding(crate::specs::Packed::packed, crate::specs::Packed::fitted))]
 fn pack_journal(answer: JournalChecked) -> u64
     ensures { result ≡ packed (fitted (journal_answer answer)) }
 {
@@ -73,8 +80,7 @@ fn pack_journal(answer: JournalChecked) -> u64
 }
 
 // Check a table: the number of its blocks, or the first check that fails.
-#[unsafe(no_mangle)]
-pub extern "C" fn lane_check(image: &[u8]) -> u64
+pub fn lane_check(image: &[u8]) -> u64
     ensures answer { result ≡ packed (checked_answer (check_of image.now)) }
     ensures unpacks { unpacked result ≡ checked_answer (check_of image.now) }
 {
@@ -82,8 +88,7 @@ pub extern "C" fn lane_check(image: &[u8]) -> u64
 }
 
 // Make the lent state fresh: the number of blocks, or the first check that fails, which leaves the state untouched.
-#[unsafe(no_mangle)]
-pub extern "C" fn lane_fresh(image: &[u8], state: &mut [u8]) -> u64
+pub fn lane_fresh(image: &[u8], state: &mut [u8]) -> u64
     ensures answer { result ≡ packed (checked_answer (fresh_of image.now state.old).answer) }
     ensures unpacks { unpacked result ≡ checked_answer (fresh_of image.now state.old).answer }
     ensures state { state.new ≡ (fresh_of image.now state.old).state }
@@ -92,8 +97,7 @@ pub extern "C" fn lane_fresh(image: &[u8], state: &mut [u8]) -> u64
 }
 
 // Run one scan: the number of events written, or the first check that fails, which leaves every lent buffer untouched.
-#[unsafe(no_mangle)]
-pub extern "C" fn lane_scan(
+pub fn lane_scan(
     image: &[u8],
     state: &mut [u8],
     frame: &[u8],
@@ -101,22 +105,21 @@ pub extern "C" fn lane_scan(
     journal: &mut [u8],
 ) -> u64
     ensures answer { result
-        ≡ packed (scan_answer (scan_of image.now state.old (record { frame = frame.entry.now }) report.old journal.old).answer) }
+        ≡ packed (scan_answer (scan_of image.now state.old (record { frame = frame.now }) report.old journal.old).answer) }
     ensures unpacks { unpacked result
-        ≡ scan_answer (scan_of image.now state.old (record { frame = frame.entry.now }) report.old journal.old).answer }
+        ≡ scan_answer (scan_of image.now state.old (record { frame = frame.now }) report.old journal.old).answer }
     ensures state { state.new
-        ≡ (scan_of image.now state.old (record { frame = frame.entry.now }) report.old journal.old).state }
+        ≡ (scan_of image.now state.old (record { frame = frame.now }) report.old journal.old).state }
     ensures report { report.new
-        ≡ (scan_of image.now state.old (record { frame = frame.entry.now }) report.old journal.old).report }
+        ≡ (scan_of image.now state.old (record { frame = frame.now }) report.old journal.old).report }
     ensures journal { journal.new
-        ≡ (scan_of image.now state.old (record { frame = frame.entry.now }) report.old journal.old).journal }
+        ≡ (scan_of image.now state.old (record { frame = frame.now }) report.old journal.old).journal }
 {
     pack_scanned(engine::scan::scan(image, state, frame, report, journal))
 }
 
 // Find a tag: its position, or the first check that fails.
-#[unsafe(no_mangle)]
-pub extern "C" fn lane_find(image: &[u8], tag: &[u8]) -> u64
+pub fn lane_find(image: &[u8], tag: &[u8]) -> u64
     ensures answer { result ≡ packed (found_answer (find_of image.now tag.now)) }
     ensures unpacks { unpacked result ≡ found_answer (find_of image.now tag.now) }
 {
@@ -124,8 +127,7 @@ pub extern "C" fn lane_find(image: &[u8], tag: &[u8]) -> u64
 }
 
 // Write a table anew, tidy, into the lent buffer: the number of its blocks, or the first check that fails, which leaves the buffer untouched.
-#[unsafe(no_mangle)]
-pub extern "C" fn lane_tidy(image: &[u8], out: &mut [u8]) -> u64
+pub fn lane_tidy(image: &[u8], out: &mut [u8]) -> u64
     ensures answer { result ≡ packed (checked_answer (tidy_into image.now out.old).answer) }
     ensures unpacks { unpacked result ≡ checked_answer (tidy_into image.now out.old).answer }
     ensures out { out.new ≡ (tidy_into image.now out.old).out }
@@ -134,8 +136,7 @@ pub extern "C" fn lane_tidy(image: &[u8], out: &mut [u8]) -> u64
 }
 
 // Check a journal against a table: the number of its events, or the first check that fails.
-#[unsafe(no_mangle)]
-pub extern "C" fn lane_check_journal(image: &[u8], journal: &[u8]) -> u64
+pub fn lane_check_journal(image: &[u8], journal: &[u8]) -> u64
     ensures answer { result ≡ packed (fitted (journal_answer (check_journal_of image.now journal.now))) }
     ensures unpacks { unpacked result ≡ fitted (journal_answer (check_journal_of image.now journal.now)) }
 {
