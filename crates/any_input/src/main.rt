@@ -1,3 +1,5 @@
+#![tactic(auto)]
+
 // Every entry point and every export called on free slices. No function here has a `requires`, so none of those can have one: what it asked, its
 // caller could not show. The program calls each with no bytes at all and prints what it answered.
 use engine::scan::Scanned;
@@ -74,85 +76,94 @@ fn lane_check_journal(image: &[u8], journal: &[u8]) -> u64 {
     lane::lane_check_journal(image, journal)
 }
 
-fn print(text: &[u8]) {
-    io::write_all(1, text);
+fn print(rt: &impl Print, text: &[u8]) {
+    let _ = rt.write_all(text);
 }
 
-fn print_checked(name: &[u8], answer: Checked) {
-    print(name);
+fn print_number(rt: &impl Print, number: u64) {
+    let _ = print!(rt; "{number}");
+}
+
+fn print_checked(rt: &impl Print, name: &[u8], answer: Checked) {
+    print(rt, name);
     match answer {
-        Checked::Blocks(_) => print(b": accepted\n"),
-        Checked::Refused(_, _) => print(b": refused\n"),
+        Checked::Blocks(_) => print(rt, b": accepted\n"),
+        Checked::Refused(_, _) => print(rt, b": refused\n"),
     }
 }
 
-fn print_found(answer: Found) {
+fn print_found(rt: &impl Print, answer: Found) {
     match answer {
-        Found::At(_) => print(b"find: accepted\n"),
-        Found::Refused(_, _) => print(b"find: refused\n"),
+        Found::At(_) => print(rt, b"find: accepted\n"),
+        Found::Refused(_, _) => print(rt, b"find: refused\n"),
     }
 }
 
-fn print_scanned(answer: Scanned) {
+fn print_scanned(rt: &impl Print, answer: Scanned) {
     match answer {
-        Scanned::Events(_) => print(b"scan: accepted\n"),
-        Scanned::Refused(_, _) => print(b"scan: refused\n"),
+        Scanned::Events(_) => print(rt, b"scan: accepted\n"),
+        Scanned::Refused(_, _) => print(rt, b"scan: refused\n"),
     }
 }
 
-fn print_journal(answer: JournalChecked) {
+fn print_journal(rt: &impl Print, answer: JournalChecked) {
     match answer {
-        JournalChecked::Events(_) => print(b"check_journal: accepted\n"),
-        JournalChecked::Refused(_, _) => print(b"check_journal: refused\n"),
+        JournalChecked::Events(_) => print(rt, b"check_journal: accepted\n"),
+        JournalChecked::Refused(_, _) => print(rt, b"check_journal: refused\n"),
     }
 }
 
-fn print_packed(name: &[u8], answer: u64) {
-    print(name);
-    print(b": refused ");
-    io::print_decimal(1, answer / lane::NUMBER_WEIGHT);
-    print(b"\n");
+fn print_packed(rt: &impl Print, name: &[u8], answer: u64) {
+    print(rt, name);
+    print(rt, b": refused ");
+    print_number(rt, answer / lane::NUMBER_WEIGHT);
+    print(rt, b"\n");
 }
 
-fn entry_points() {
+fn entry_points(rt: &impl Print) {
     let none = [0u8; 0];
     let mut state = [0u8; 0];
     let mut report = [0u8; 0];
     let mut journal = [0u8; 0];
     let mut out = [0u8; 0];
-    print_checked(b"check", check(&none));
-    print_found(find(&none, &none));
-    print(b"show: ");
-    io::print_decimal(1, show(&none, &none).len() as u64);
-    print(b" bytes\n");
-    print_checked(b"fresh", fresh(&none, &mut state));
-    print_scanned(scan(&none, &mut state, &none, &mut report, &mut journal));
-    print_checked(b"tidy", tidy(&none, &mut out));
-    print_journal(check_journal(&none, &none));
+    print_checked(rt, b"check", check(&none));
+    print_found(rt, find(&none, &none));
+    print(rt, b"show: ");
+    print_number(rt, show(&none, &none).len() as u64);
+    print(rt, b" bytes\n");
+    print_checked(rt, b"fresh", fresh(&none, &mut state));
+    print_scanned(
+        rt,
+        scan(&none, &mut state, &none, &mut report, &mut journal),
+    );
+    print_checked(rt, b"tidy", tidy(&none, &mut out));
+    print_journal(rt, check_journal(&none, &none));
     let mut text = [0u8; SHEET_ROOM];
-    print(b"totals: ");
-    io::print_decimal(1, totals(&none, &mut text) as u64);
-    print(b" bytes\n");
+    print(rt, b"totals: ");
+    print_number(rt, totals(&none, &mut text) as u64);
+    print(rt, b" bytes\n");
 }
 
-fn exports() {
+fn exports(rt: &impl Print) {
     let none = [0u8; 0];
     let mut state = [0u8; 0];
     let mut report = [0u8; 0];
     let mut journal = [0u8; 0];
     let mut out = [0u8; 0];
-    print_packed(b"lane_check", lane_check(&none));
-    print_packed(b"lane_find", lane_find(&none, &none));
-    print_packed(b"lane_fresh", lane_fresh(&none, &mut state));
+    print_packed(rt, b"lane_check", lane_check(&none));
+    print_packed(rt, b"lane_find", lane_find(&none, &none));
+    print_packed(rt, b"lane_fresh", lane_fresh(&none, &mut state));
     print_packed(
+        rt,
         b"lane_scan",
         lane_scan(&none, &mut state, &none, &mut report, &mut journal),
     );
-    print_packed(b"lane_tidy", lane_tidy(&none, &mut out));
-    print_packed(b"lane_check_journal", lane_check_journal(&none, &none));
+    print_packed(rt, b"lane_tidy", lane_tidy(&none, &mut out));
+    print_packed(rt, b"lane_check_journal", lane_check_journal(&none, &none));
 }
 
-fn main() {
-    entry_points();
-    exports();
+fn main(rt: HostRuntime) {
+    let rt = &rt;
+    entry_points(rt);
+    exports(rt);
 }
