@@ -36,52 +36,52 @@ fn position_of(tag: &[u8]) -> usize {
     }
 }
 
-fn found_line(tag: &[u8]) {
-    column(tag, 10);
-    print(b"position ");
-    number(position_of(tag) as u64);
-    print(b"\n");
+fn found_line(rt: &impl Print, tag: &[u8]) {
+    column(rt, tag, 10);
+    print(rt, b"position ");
+    number(rt, position_of(tag) as u64);
+    print(rt, b"\n");
 }
 
 // The report entry of a tag, by its position.
-fn report_line(tag: &[u8], report: &[u8; 2 * REPORT_BYTES]) {
+fn report_line(rt: &impl Print, tag: &[u8], report: &[u8; 2 * REPORT_BYTES]) {
     match position_of(tag) {
-        1 => line::report_at(tag, report, 0),
-        2 => line::report_at(tag, report, REPORT_BYTES),
-        _ => column(tag, 10),
+        1 => line::report_at(rt, tag, report, 0),
+        2 => line::report_at(rt, tag, report, REPORT_BYTES),
+        _ => column(rt, tag, 10),
     }
-    print(b"\n");
+    print(rt, b"\n");
 }
 
 // The tag that is found at a position.
-fn print_tag(position: usize) {
+fn print_tag(rt: &impl Print, position: usize) {
     if position_of(b"LANE0   ") == position {
-        print(b"LANE0 ");
+        print(rt, b"LANE0 ");
         return;
     }
     if position_of(b"LANEO   ") == position {
-        print(b"LANEO ");
+        print(rt, b"LANEO ");
         return;
     }
-    print(b"? ");
+    print(rt, b"? ");
 }
 
 // The first events of the journal, each with the tag of its block.
-fn journal_line(journal: &[u8], count: usize) {
-    column(b"journal", 10);
+fn journal_line(rt: &impl Print, journal: &[u8], count: usize) {
+    column(rt, b"journal", 10);
     let n = readable(count, journal);
     let mut i = 0;
     while i < n {
         if 0 < i {
-            print(b", ");
+            print(rt, b", ");
         }
         let at = EVENT_BYTES * i;
         let posted = decode_event(&journal[at..]);
-        print_tag(posted.position as usize);
-        names::event(posted.event);
+        print_tag(rt, posted.position as usize);
+        names::event(rt, posted.event);
         i += 1;
     }
-    print(b"\n");
+    print(rt, b"\n");
 }
 
 fn frame_of(first: Entry, second: Entry) -> [u8; 2 * ENTRY_BYTES] {
@@ -92,6 +92,7 @@ fn frame_of(first: Entry, second: Entry) -> [u8; 2 * ENTRY_BYTES] {
 }
 
 fn answer_lines(
+    rt: &impl Print,
     name: &[u8],
     answer: Scanned,
     report: &[u8; 2 * REPORT_BYTES],
@@ -99,65 +100,74 @@ fn answer_lines(
 ) {
     match answer {
         Scanned::Events(count) => {
-            line::heading(name);
-            print(b"truck\n");
-            report_line(b"LANE0   ", report);
-            report_line(b"LANEO   ", report);
-            journal_line(journal, count);
+            line::heading(rt, name);
+            print(rt, b"truck\n");
+            report_line(rt, b"LANE0   ", report);
+            report_line(rt, b"LANEO   ", report);
+            journal_line(rt, journal, count);
         }
         Scanned::Refused(number, place) => {
-            column(name, 10);
-            names::refusal(number, place);
-            print(b"\n");
+            column(rt, name, 10);
+            names::refusal(rt, number, place);
+            print(rt, b"\n");
         }
     }
 }
 
-fn scan(name: &[u8], state: &mut [u8; 2 * RECORD_BYTES], first: Entry, second: Entry) {
+fn scan(
+    rt: &impl Print,
+    name: &[u8],
+    state: &mut [u8; 2 * RECORD_BYTES],
+    first: Entry,
+    second: Entry,
+) {
     let image = image();
     let frame = frame_of(first, second);
     let mut report = [0; 2 * REPORT_BYTES];
     let mut journal = [0; 4 * EVENT_BYTES];
     let answer = engine::scan::scan(&image, state, &frame, &mut report, &mut journal);
-    answer_lines(name, answer, &report, &journal);
+    answer_lines(rt, name, answer, &report, &journal);
 }
 
-fn fresh_state() -> [u8; 2 * RECORD_BYTES] {
+fn fresh_state(rt: &impl Print) -> [u8; 2 * RECORD_BYTES] {
     let image = image();
     let mut state = [255; 2 * RECORD_BYTES];
     let answer = engine::fresh::fresh(&image, &mut state);
-    column(b"fresh", 10);
+    column(rt, b"fresh", 10);
     match answer {
         Checked::Blocks(count) => {
-            number(count as u64);
-            print(b" blocks\n");
+            number(rt, count as u64);
+            print(rt, b" blocks\n");
         }
         Checked::Refused(number, place) => {
-            names::refusal(number, place);
-            print(b"\n");
+            names::refusal(rt, number, place);
+            print(rt, b"\n");
         }
     }
     state
 }
 
 // After the first scan the frame names the next trucks, for which neither block is free yet.
-pub fn run() {
-    found_line(b"LANE0   ");
-    found_line(b"LANEO   ");
-    let mut state = fresh_state();
+pub fn run(rt: &impl Print) {
+    found_line(rt, b"LANE0   ");
+    found_line(rt, b"LANEO   ");
+    let mut state = fresh_state(rt);
     scan(
+        rt,
         b"scan 1",
         &mut state,
         with_job(FIRST_TRUCK, working(0)),
         with_job(SECOND_TRUCK, working(0)),
     );
     scan(
+        rt,
         b"scan 2",
         &mut state,
         with_job(THIRD_TRUCK, working(0)),
         with_job(FOURTH_TRUCK, complete(0)),
     );
     scan(
+        rt,
         b"scan 3",
         &mut state,
         with_job(THIRD_TRUCK, complete(0)),

@@ -1,3 +1,5 @@
+#![tactic(auto)]
+
 // Runs fresh, scan and find on bytes and prints what they show: the worked examples of document 01 (its "Lane card"), two
 // lanes with look-alike tags, and a refused scan between two accepted ones.
 mod text; // columns on standard output
@@ -10,10 +12,11 @@ mod examples;
 mod lanes;
 mod refused;
 
-fn main() {
-    examples::run();
-    text::print(b"\n");
-    lanes::run();
-    text::print(b"\n");
-    refused::run();
+fn main(rt: HostRuntime) {
+    let rt = &rt;
+    examples::run(rt);
+    text::print(rt, b"\n");
+    lanes::run(rt);
+    text::print(rt, b"\n");
+    refused::run(rt);
 }

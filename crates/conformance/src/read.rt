@@ -6,7 +6,7 @@ ghost use Rattle.conformance.specs.Read.{report_at};
 use layout::{event, report};
 
 // What a call leaves, as its report entry says it.
-#[derive(Drop)]
+#[derive(Clone, Copy)]
 pub struct Report {
     pub flags: u8,
     pub used: u8,

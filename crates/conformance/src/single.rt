@@ -20,17 +20,18 @@ pub fn image_of(kind: u8) -> [u8; ONE_SLOT] {
 }
 
 // A state that fresh made of bytes that are not zero.
-pub fn fresh_state(image: &[u8; ONE_SLOT]) -> [u8; RECORD_BYTES] {
+pub fn fresh_state(rt: &impl Print, image: &[u8; ONE_SLOT]) -> [u8; RECORD_BYTES] {
     let mut state = [255; RECORD_BYTES];
     let answer = engine::fresh::fresh(image, &mut state);
     if let Checked::Refused(number, place) = answer {
-        names::refusal(number, place);
-        print(b"\n");
+        names::refusal(rt, number, place);
+        print(rt, b"\n");
     }
     state
 }
 
 fn answer_line(
+    rt: &impl Print,
     name: &[u8],
     answer: Scanned,
     report: &[u8; REPORT_BYTES],
@@ -38,21 +39,27 @@ fn answer_line(
 ) {
     match answer {
         Scanned::Events(count) => {
-            line::call(name, report, journal, count);
+            line::call(rt, name, report, journal, count);
         }
         Scanned::Refused(number, place) => {
-            column(name, 10);
-            names::refusal(number, place);
+            column(rt, name, 10);
+            names::refusal(rt, number, place);
         }
     }
-    print(b"\n");
+    print(rt, b"\n");
 }
 
 // One scan, and its line.
-pub fn scan(name: &[u8], image: &[u8; ONE_SLOT], state: &mut [u8; RECORD_BYTES], entry: Entry) {
+pub fn scan(
+    rt: &impl Print,
+    name: &[u8],
+    image: &[u8; ONE_SLOT],
+    state: &mut [u8; RECORD_BYTES],
+    entry: Entry,
+) {
     let frame = layout::entry::encode_entry(entry);
     let mut report = [0; REPORT_BYTES];
     let mut journal = [0; 2 * EVENT_BYTES];
     let answer = engine::scan::scan(image, state, &frame, &mut report, &mut journal);
-    answer_line(name, answer, &report, &journal);
+    answer_line(rt, name, answer, &report, &journal);
 }
