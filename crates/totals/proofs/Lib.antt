@@ -1,1 +1,1 @@
-pub mod BufferLaws
+pub mod InputLaws

@@ -1,11 +1,17 @@
+#![tactic(auto)]
+
 // Shift totals: reads a table and then a journal from standard input, and prints the sheet, or the number of the refusal. All that it prints on
 // standard output is what `sheet::totals::totals` makes of the bytes that came.
-ghost use Rattle.std.specs.Prelude.{◌≡◌, length};
-ghost use Rattle.io.specs.Counts.{IsPrefixLen};
+ghost use Rattle.std.specs.Prelude.{◌≡◌, ◌≤◌, ◌<◌, IfErr, IfSome, IsNone, OnOk, length, take};
+ghost use Rattle.std.specs.Io.KnownBytes.{Appends, Consumes, IsAtEnd, Keeps};
+ghost use Rattle.sheet.specs.Totals.{totals_of};
+ghost use Rattle.totals.specs.Failure.{IsOfInput};
 
-use libc::{EPIPE, STDERR_FILENO, STDIN_FILENO, STDOUT_FILENO};
 use sheet::sheet::SHEET_ROOM;
 use sheet::totals::{MOST_INPUT, totals};
+use std::env::{Env, FillError};
+use std::io;
+use std::io::{ErrorKind, Read, Write};
 
 // One byte more than an input may have, so that a longer one is seen.
 const INPUT_ROOM: usize = MOST_INPUT + 1;
@@ -17,67 +23,99 @@ fn input_buffer() -> [u8; INPUT_ROOM]
     [0; INPUT_ROOM]
 }
 
-// How many bytes came, and whether a read failed after them.
+// How many bytes came, and the read that failed after them, if one did.
 #[derive(Drop)]
 struct Input {
     count: usize,
-    failed: bool,
+    failed: Option<io::Error>,
 }
 
 // Reads until the buffer is full, the input ends or a read fails: a pipe may give any part at a time.
-fn read_input(input: &mut [u8]) -> Input
-    ensures { IsPrefixLen result.count input.new }
+fn read_input<R: Read>(reader: &mut R, input: &mut [u8]) -> Input
+    ensures count { (result.count ≤ length input.new) × (result.count ≡ length (take result.count input.new)) }
+    ensures came { Consumes (R.remaining reader.old) (R.remaining reader.new) (take result.count input.new) }
+    ensures all { IsNone result.failed → result.count < length input.new → IsAtEnd (R.remaining reader.new) }
 {
     let mut count = 0;
     while count < input.len() {
-        let got = libc::read(STDIN_FILENO, &mut input[count..]);
-        if got < 0 {
-            return Input {
-                count,
-                failed: true,
-            };
+        match reader.read(&mut input[count..]) {
+            Ok(0) => {
+                return Input {
+                    count,
+                    failed: None,
+                };
+            }
+            Ok(more) => count += more,
+            Err(error) => {
+                return Input {
+                    count,
+                    failed: Some(error),
+                };
+            }
         }
-        let more = io::count(got, &input[count..]);
-        if more == 0 {
-            return Input {
-                count,
-                failed: false,
-            };
-        }
-        count += more;
     }
     Input {
         count,
-        failed: false,
+        failed: None,
     }
 }
 
-// Prints the text. Where nobody reads it any more, the program ends quietly; any other failure is said on standard error.
-fn print(text: &[u8]) {
-    if io::write_all(STDOUT_FILENO, text) {
-        return;
-    }
-    if os::errno() != EPIPE {
-        os::fail(b"totals: standard output");
-    }
+// Why there is no sheet, or not all of it.
+#[derive(Drop)]
+enum Failure {
+    Input(io::Error),
+    Output(io::Error),
 }
 
-fn main() {
-    if os::arg_count() > 1 {
-        io::write_all(
-            STDERR_FILENO,
-            b"totals: takes no arguments; the table and the journal come on standard input\n",
-        );
-        return;
-    }
+// Reads the input and writes what is printed of it: of a reader whose bytes are known, all of them. Where a read fails, nothing is written.
+fn print_totals<R: Read, W: Write>(reader: &mut R, writer: &mut W) -> Result<(), Failure>
+    ensures sheet { OnOk result (IfSome (R.remaining reader.old)
+        (λ input. Appends (W.contents writer.old) (W.contents writer.new) (totals_of input))) }
+    ensures unread { IfErr result (λ failure. IsOfInput failure → Keeps (W.contents writer.old) (W.contents writer.new)) }
+{
     let mut input = input_buffer();
-    let came = read_input(&mut input);
+    let came = read_input(reader, &mut input);
     let count = came.count;
-    if came.failed {
-        os::fail(b"totals: standard input");
-        return;
+    if let Some(error) = came.failed {
+        return Err(Failure::Input(error));
     }
     let mut out = [0u8; SHEET_ROOM];
     let end = totals(&input[..count], &mut out);
-    print(&out[..end]);
+    match writer.write_all(&out[..end]) {
+        Ok(()) => Ok(()),
+        Err(error) => Err(Failure::Output(error)),
+    }
+}
+
+fn has_arguments(rt: &impl Env) -> bool {
+    match rt.arg(1, &mut []) {
+        Err(FillError::NotPresent) => false,
+        _ => true,
+    }
+}
+
+// Where nobody reads the output any more, the program ends quietly; any other failure is said on standard error.
+fn say(rt: &impl Eprint, failure: Failure) {
+    match failure {
+        Failure::Input(error) => {
+            let _ = eprintln!(rt; "totals: standard input: {error}");
+        }
+        Failure::Output(error) => {
+            if error.kind() != ErrorKind::BrokenPipe {
+                let _ = eprintln!(rt; "totals: standard output: {error}");
+            }
+        }
+    }
+}
+
+fn main(rt: HostRuntime) {
+    if has_arguments(&rt) {
+        let _ = eprintln!(rt;
+            "totals: takes no arguments; the table and the journal come on standard input"
+        );
+        return;
+    }
+    if let Err(failure) = print_totals(&mut rt.stdin(), &mut rt.stdout()) {
+        say(&rt, failure);
+    }
 }
