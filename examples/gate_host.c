@@ -2,11 +2,11 @@
  * scan runs over the table as it was edited and over the same table tidied: both give the same. At the end the
  * journal of all scans is checked as one from another maker's box would be.
  *
- * Build at the root of the repository, after `rt staticlib lane`:
+ * Build at the root of the repository, after `.ci/archive`:
  *     gcc -std=c99 -Wall -Wextra -Iinclude examples/gate_host.c target/staticlib/liblane.a -o target/gate_host
  *
  * Given a file's name, it also leaves the table and the journal there, as the program `totals` reads them:
- *     target/gate_host target/shift && target/bin/totals <target/shift
+ *     target/gate_host target/shift && crates/totals/out/totals <target/shift
  */
 
 #include "lane.h"

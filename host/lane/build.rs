@@ -1,4 +1,4 @@
-//! Links the archive of the engine, `liblane.a`, as `rt staticlib lane` writes it.
+//! Links the archive of the engine, `liblane.a`, as `.ci/archive` leaves it.
 //!
 //! It stands in `target/staticlib` of the repository, or in the folder that the environment
 //! variable `LANE_LIB_DIR` names.
@@ -16,7 +16,7 @@ fn main() {
     if !archive.is_file() {
         eprintln!(
             "error: no {}\n\
-             Run `rt staticlib lane` at the root of the repository, \
+             Run `.ci/archive` at the root of the repository, \
              or set LANE_LIB_DIR to the folder (absolute) that holds liblane.a.",
             archive.display()
         );

@@ -5,7 +5,7 @@
 //! With arguments: times of the same calls by each build of the engine that they name, beside plain C, and of the parts of an idle scan; a
 //! build is a shared library made of its archive. At the root of each checkout, then in `host`:
 //!
-//!     rt staticlib lane
+//!     .ci/archive
 //!     gcc -shared -o target/lane.so -Wl,--whole-archive target/staticlib/liblane.a -Wl,--no-whole-archive
 //!     cargo run --release -p bench -- BEFORE/target/lane.so ../target/lane.so
 //!

@@ -1,6 +1,6 @@
 //! The program `totals`, run on an input over real pipes or from a regular file.
 //!
-//! It stands in `target/bin` of the repository, or where the environment variable `LANE_TOTALS` says (absolute).
+//! It stands in `crates/totals/out` of the repository, or where the environment variable `LANE_TOTALS` says (absolute).
 
 use crate::rng::Rng;
 use std::env;
@@ -46,10 +46,10 @@ impl Feed {
     }
 }
 
-/// `target/bin/totals` at the root of the repository.
+/// `crates/totals/out/totals` at the root of the repository.
 fn default_path() -> PathBuf {
     let root = Path::new(env!("CARGO_MANIFEST_DIR")).ancestors().nth(2);
-    root.map(|root| root.join("target/bin/totals"))
+    root.map(|root| root.join("crates/totals/out/totals"))
         .unwrap_or_default()
 }
 
@@ -60,7 +60,7 @@ pub fn path() -> Result<PathBuf, String> {
         true => Ok(path),
         false => Err(format!(
             "no {}\n\
-             Run `rt check totals` at the root of the repository, or set LANE_TOTALS to the program (absolute).",
+             Run `rt run <stdin` in crates/totals, or set LANE_TOTALS to the program (absolute).",
             path.display()
         )),
     }
@@ -148,7 +148,7 @@ impl Running {
     }
 
     /// The program with a pipe for its input and one for its output that the reader has closed. Writing to that one
-    /// ends the program by a signal, or gives it an error where the signal is ignored.
+    /// sends a signal, which the program ignores by itself and so gets an error; or the shell has it ignored before.
     pub fn unread(ignored: bool) -> Result<(Running, ChildStdin), String> {
         let mut command = Command::new(path()?);
         if ignored {
@@ -213,7 +213,7 @@ impl Running {
             let errors = errors.escape_ascii();
             return Err(format!("it says on the standard error: {errors}"));
         }
-        // Where nobody reads what it prints, a signal may end it.
+        // Where nobody reads what it prints, a program that ignores no signal is ended by one. This one ends with 0.
         if self.printed.is_some() && !status.success() {
             return Err(format!("it ends with {status}"));
         }

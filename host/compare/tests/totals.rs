@@ -1,6 +1,6 @@
 //! Shift totals, request 7/14: the program against the reference, and both against what the papers say of a sheet.
 //!
-//! The program is `target/bin/totals` of the repository, or that of `LANE_TOTALS`. `LANE_SEED` sets the seed,
+//! The program is `crates/totals/out/totals` of the repository, or that of `LANE_TOTALS`. `LANE_SEED` sets the seed,
 //! `LANE_ROUNDS` multiplies the number of cases. A failing input is printed as a command that runs it again.
 
 use compare::check::agreed;
