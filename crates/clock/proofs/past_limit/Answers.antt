@@ -1,5 +1,5 @@
 -- `clock::past_limit` meets its contract: what its two callees ensure, put together.
-use Rattle.std.proofs.Common.{ap, ◌∙◌, rules}
+use Rattle.std.proofs.Common.{ap, ◌∙◌}
 use Rattle.clock.specs.Clock.{past, past_limit}
 use Rattle.clock.proofs.past_limit.Goals as goal
 

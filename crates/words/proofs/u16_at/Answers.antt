@@ -1,7 +1,6 @@
 -- `words::u16_at` meets its contract: a width of two is one byte and one byte.
 use Prim.Native.Nat.{◌+◌}
 use native.Mathlib.Omega.{arith}
-use borrow.Author.Rules.{rules}
 use Rattle.words.proofs.WordLaws.{number_one, number_split}
 use Rattle.words.proofs.u16_at.Goals as goal
 

@@ -1,7 +1,6 @@
 -- `words::u32_at` meets its contract: a width of four is two and two.
 use native.Mathlib.Omega.{arith}
 use Rattle.words.proofs.WordLaws.{number_split}
-use borrow.Author.Rules.{rules}
 use Rattle.words.proofs.u32_at.Goals as goal
 
 pub returns : goal.returns

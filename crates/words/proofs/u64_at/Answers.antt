@@ -1,7 +1,6 @@
 -- `words::u64_at` meets its contract: a width of eight is four and four.
 use native.Mathlib.Omega.{arith}
 use Rattle.words.proofs.WordLaws.{number_split}
-use borrow.Author.Rules.{rules}
 use Rattle.words.proofs.u64_at.Goals as goal
 
 pub returns : goal.returns

@@ -1,5 +1,4 @@
 -- `Timer::past_time_out` meets its contract: it is `is_past` of the elapsed time.
-use Rattle.std.proofs.Common.{rules}
 use Rattle.clock.specs.Clock.{past_time_out}
 use Rattle.clock.proofs.Timer.past_time_out.Goals as goal
 

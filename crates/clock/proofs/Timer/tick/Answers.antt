@@ -1,5 +1,5 @@
 -- `Timer::tick` meets its contract: elapsed is what `held` and `counted_time` give, and the last reading goes by the test.
-use Rattle.std.proofs.Common.{◌≡◌, ℕ, ◌+◌, min, Bool, true, false, cond, sym, ◌∙◌, rules}
+use Rattle.std.proofs.Common.{◌≡◌, ℕ, ◌+◌, min, Bool, true, false, cond, sym, ◌∙◌}
 use Rattle.clock.specs.Clock.{most_elapsed, out_of_step, counted, tick}
 use Rattle.clock.specs.declared.Timer.{Timer}
 use Rattle.clock.proofs.Timer.tick.Goals as goal
