@@ -2,17 +2,21 @@
 """Respells the repository's own definitions, lemmas, fields and parameters in the spelling of the language.
 
     respell_names.py           at the top of the repository: respells it, and writes the rows to tools/respelled.tsv
-    respell_names.py FILE ..   respells these texts alone (a patch, notes) by the rows of tools/respelled.tsv
+    respell_names.py FILE ..   at the top of the repository once that is done: respells these older texts alone, a patch or notes
 
-Run the first form once, right after the language's own script and before any edit by hand. Words are in snake case, so
+Run the first form once, right after the language's own script and before any edit by hand; a second time it refuses. Words are in
+snake case, so
 
-- a word in lower camel case that stands in an .antt file of crates/ gets underscores: `countOf` becomes `count_of`;
-- a name with dashes that an .antt file of crates/ declares gets underscores: `by-position` becomes `by_position`. Where it would
-  fall together with another word of a file that has it, it is a lemma with the name of a definition and ends in `_lem`:
-  `tag-length` becomes `tag_length_lem`.
+- a word in lower camel case that stands in an .antt file of crates/ gets underscores: `atStep` becomes `at_step`. One that falls
+  together with another word is turned all the same, and printed;
+- a name with dashes that an .antt file of crates/ declares (one that only a Proof.antt does not count) gets underscores:
+  `by-position` becomes `by_position`. Where it would fall together with another word of a file that has both, a field that is read or
+  given apart, it ends in `_lem`, as a lemma with the name of a definition does: `tag-length` becomes `tag_length_lem`.
 
 Names of the kit and those that the check makes (behind `goal.`, `c.` and the like) stay. So do Rust's names and strings: they have
-neither spelling. In pages, and in comments of .rt files, dashes are turned in code spans alone, as some such words are plain English.
+neither spelling. In pages, and in comments of .rt files, dashes are turned in code spans alone, as some such words are plain English;
+in the texts of the second form everywhere, so read what it did. That form also turns what the language's own script turned here: a
+word whose new spelling an .antt file declares.
 """
 import pathlib
 import re
@@ -26,6 +30,7 @@ TOKEN = re.compile(r"[^\s(){}.;,@\"«»`]+")
 NAME = r"[a-z][\w']*"
 DASHED = rf"{NAME}(?:-[\w']+)+"
 HEAD = re.compile(r"^(?:abbrev |unfoldable |opaque )?(?:pub )?(?:record |data )?([A-Za-z][\w'-]*)(?: \{[^}]*\})? :", re.M)
+NESTED = re.compile(r"^ +(?:abbrev |unfoldable |opaque )?(?:pub )?(?:record |data )?([a-z][\w']*)(?: \{[^}]*\})? :", re.M)
 WORD = re.compile(rf"(?<![\w'-]){DASHED}(?![\w'-])")
 # What declares dashed names: a definition, lemma or field; a local one; parameters, each a list of words; an import under another name.
 DECLARED = [
@@ -135,15 +140,20 @@ def turn_page(text, camel, dash, declared):
     return turn_spans(CAMEL.sub(turn, text), dash)
 
 
+def read_antt(top):
+    return {it: it.read_text() for folder in ("specs", "proofs") for it in sorted(top.glob(f"crates/*/{folder}/**/*.antt"))}
+
+
 def respell():
+    if ROWS.exists():
+        sys.exit(f"{ROWS} is there: this was done, and what was written since has the new spelling")
     top = pathlib.Path(".")
-    paths = [it for folder in ("specs", "proofs") for it in sorted(top.glob(f"crates/*/{folder}/**/*.antt"))]
-    antt = {it: it.read_text() for it in paths}
+    antt = read_antt(top)
     camel = camel_rows(antt)
     declared = {word for text in antt.values() for word in HEAD.findall(text)}
     dash = dash_rows({path: CAMEL.sub(lambda m: camel.get(m.group(0), m.group(0)), text) for path, text in antt.items()})
     changed = 0
-    turns = [(paths, lambda it: turn_antt(it, camel, dash))]
+    turns = [(antt, lambda it: turn_antt(it, camel, dash))]
     for pattern, turn in (
         ("crates/*/src/**/*.rt", lambda it: turn_code(it, camel, dash)),
         ("crates/*/must-fail/*.edit", lambda it: turn_edit(it, camel, dash)),
@@ -158,14 +168,28 @@ def respell():
             if new != text:
                 path.write_text(new)
                 changed += 1
+    ROWS.parent.mkdir(exist_ok=True)
     ROWS.write_text("".join(f"{old}\t{new}\n" for old, new in sorted({**camel, **dash}.items())))
     print(f"respelled: {len(camel)} words in camel case, {len(dash)} with dashes, {changed} files")
 
 
+class Rows(dict):
+    """The rows of one spelling; a word of it that has none is turned too, if its new spelling is declared."""
+
+    def __init__(self, rows, new_of, declared):
+        super().__init__(rows)
+        self.new_of, self.declared = new_of, declared
+
+    def get(self, word, default=None):
+        new = self.new_of(word)
+        return super().get(word, new if new in self.declared else default)
+
+
 def respell_texts(files):
+    declared = {word for text in read_antt(pathlib.Path(".")).values() for word in HEAD.findall(text) + NESTED.findall(text)}
     rows = dict(it.split("\t") for it in ROWS.read_text().splitlines())
-    camel = {old: new for old, new in rows.items() if "-" not in old}
-    dash = {old: new for old, new in rows.items() if "-" in old}
+    camel = Rows({old: new for old, new in rows.items() if "-" not in old}, snake, declared)
+    dash = Rows({old: new for old, new in rows.items() if "-" in old}, lambda it: it.replace("-", "_"), declared)
     for file in files:
         path = pathlib.Path(file)
         text = path.read_text()

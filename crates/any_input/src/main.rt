@@ -1,6 +1,6 @@
 #![tactic(auto)]
 
-// Every entry point and every export called on free slices. No function here has a `requires`, so none of those can have one: what it asked, its
+// Every entry point, and every function of `lane` that C is given, called on free slices. No function here has a `requires`, so none of those can have one: what it asked, its
 // caller could not show. The program calls each with no bytes at all and prints what it answered.
 use engine::scan::Scanned;
 use journal::check::JournalChecked;
