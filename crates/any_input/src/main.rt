@@ -2,17 +2,15 @@
 
 // Every entry point, and every function of `lane` that C is given, called on free slices. No function here has a `requires`, so none of those can have one: what it asked, its
 // caller could not show. The program calls each with no bytes at all and prints what it answered.
-use engine::scan::Scanned;
-use journal::check::JournalChecked;
+use refusal::Answer;
 use sheet::sheet::SHEET_ROOM;
-use table::check::Checked;
-use table::lookup::Found;
+use std::io;
 
-fn check(image: &[u8]) -> Checked {
+fn check(image: &[u8]) -> Answer {
     table::check::check(image)
 }
 
-fn find(image: &[u8], tag: &[u8]) -> Found {
+fn find(image: &[u8], tag: &[u8]) -> Answer {
     table::lookup::find(image, tag)
 }
 
@@ -20,7 +18,7 @@ fn show<'a, 'b>(image: &'a [u8], tag: &'b [u8]) -> &'a [u8] {
     table::lookup::show(image, tag)
 }
 
-fn fresh(image: &[u8], state: &mut [u8]) -> Checked {
+fn fresh(image: &[u8], state: &mut [u8]) -> Answer {
     engine::fresh::fresh(image, state)
 }
 
@@ -30,15 +28,15 @@ fn scan(
     frame: &[u8],
     report: &mut [u8],
     journal: &mut [u8],
-) -> Scanned {
+) -> Answer {
     engine::scan::scan(image, state, frame, report, journal)
 }
 
-fn tidy(image: &[u8], out: &mut [u8]) -> Checked {
+fn tidy(image: &[u8], out: &mut [u8]) -> Answer {
     tidy::tidy::tidy(image, out)
 }
 
-fn check_journal(image: &[u8], journal: &[u8]) -> JournalChecked {
+fn check_journal(image: &[u8], journal: &[u8]) -> Answer {
     journal::check::check_journal(image, journal)
 }
 
@@ -76,94 +74,62 @@ fn lane_check_journal(image: &[u8], journal: &[u8]) -> u64 {
     lane::lane_check_journal(image, journal)
 }
 
-fn print(rt: &impl Print, text: &[u8]) {
-    let _ = rt.write_all(text);
+fn print_answer(rt: &impl Print, name: &str, answer: Answer) -> io::Result<()> {
+    let outcome = if answer.is_ok() {
+        "accepted"
+    } else {
+        "refused"
+    };
+    println!(rt; "{name}: {outcome}")
 }
 
-fn print_number(rt: &impl Print, number: u64) {
-    let _ = print!(rt; "{number}");
+fn print_length(rt: &impl Print, name: &str, length: usize) -> io::Result<()> {
+    println!(rt; "{name}: {length} bytes")
 }
 
-fn print_checked(rt: &impl Print, name: &[u8], answer: Checked) {
-    print(rt, name);
-    match answer {
-        Checked::Blocks(_) => print(rt, b": accepted\n"),
-        Checked::Refused(_, _) => print(rt, b": refused\n"),
-    }
+fn print_packed(rt: &impl Print, name: &str, answer: u64) -> io::Result<()> {
+    println!(rt; "{name}: refused {}", answer / lane::NUMBER_WEIGHT)
 }
 
-fn print_found(rt: &impl Print, answer: Found) {
-    match answer {
-        Found::At(_) => print(rt, b"find: accepted\n"),
-        Found::Refused(_, _) => print(rt, b"find: refused\n"),
-    }
-}
-
-fn print_scanned(rt: &impl Print, answer: Scanned) {
-    match answer {
-        Scanned::Events(_) => print(rt, b"scan: accepted\n"),
-        Scanned::Refused(_, _) => print(rt, b"scan: refused\n"),
-    }
-}
-
-fn print_journal(rt: &impl Print, answer: JournalChecked) {
-    match answer {
-        JournalChecked::Events(_) => print(rt, b"check_journal: accepted\n"),
-        JournalChecked::Refused(_, _) => print(rt, b"check_journal: refused\n"),
-    }
-}
-
-fn print_packed(rt: &impl Print, name: &[u8], answer: u64) {
-    print(rt, name);
-    print(rt, b": refused ");
-    print_number(rt, answer / lane::NUMBER_WEIGHT);
-    print(rt, b"\n");
-}
-
-fn entry_points(rt: &impl Print) {
+fn entry_points(rt: &impl Print) -> io::Result<()> {
     let none = [0u8; 0];
     let mut state = [0u8; 0];
     let mut report = [0u8; 0];
     let mut journal = [0u8; 0];
     let mut out = [0u8; 0];
-    print_checked(rt, b"check", check(&none));
-    print_found(rt, find(&none, &none));
-    print(rt, b"show: ");
-    print_number(rt, show(&none, &none).len() as u64);
-    print(rt, b" bytes\n");
-    print_checked(rt, b"fresh", fresh(&none, &mut state));
-    print_scanned(
-        rt,
-        scan(&none, &mut state, &none, &mut report, &mut journal),
-    );
-    print_checked(rt, b"tidy", tidy(&none, &mut out));
-    print_journal(rt, check_journal(&none, &none));
     let mut text = [0u8; SHEET_ROOM];
-    print(rt, b"totals: ");
-    print_number(rt, totals(&none, &mut text) as u64);
-    print(rt, b" bytes\n");
+    print_answer(rt, "check", check(&none))?;
+    print_answer(rt, "find", find(&none, &none))?;
+    print_length(rt, "show", show(&none, &none).len())?;
+    print_answer(rt, "fresh", fresh(&none, &mut state))?;
+    let scanned = scan(&none, &mut state, &none, &mut report, &mut journal);
+    print_answer(rt, "scan", scanned)?;
+    print_answer(rt, "tidy", tidy(&none, &mut out))?;
+    print_answer(rt, "check_journal", check_journal(&none, &none))?;
+    print_length(rt, "totals", totals(&none, &mut text))
 }
 
-fn exports(rt: &impl Print) {
+fn exports(rt: &impl Print) -> io::Result<()> {
     let none = [0u8; 0];
     let mut state = [0u8; 0];
     let mut report = [0u8; 0];
     let mut journal = [0u8; 0];
     let mut out = [0u8; 0];
-    print_packed(rt, b"lane_check", lane_check(&none));
-    print_packed(rt, b"lane_find", lane_find(&none, &none));
-    print_packed(rt, b"lane_fresh", lane_fresh(&none, &mut state));
-    print_packed(
-        rt,
-        b"lane_scan",
-        lane_scan(&none, &mut state, &none, &mut report, &mut journal),
-    );
-    print_packed(rt, b"lane_tidy", lane_tidy(&none, &mut out));
-    print_packed(rt, b"lane_check_journal", lane_check_journal(&none, &none));
+    print_packed(rt, "lane_check", lane_check(&none))?;
+    print_packed(rt, "lane_find", lane_find(&none, &none))?;
+    print_packed(rt, "lane_fresh", lane_fresh(&none, &mut state))?;
+    let scanned = lane_scan(&none, &mut state, &none, &mut report, &mut journal);
+    print_packed(rt, "lane_scan", scanned)?;
+    print_packed(rt, "lane_tidy", lane_tidy(&none, &mut out))?;
+    print_packed(rt, "lane_check_journal", lane_check_journal(&none, &none))
+}
+
+fn print_all(rt: &impl Print) -> io::Result<()> {
+    entry_points(rt)?;
+    exports(rt)
 }
 
 fn main(rt: HostRuntime) {
-    let rt = &rt;
-    entry_points(rt);
-    exports(rt);
+    // A failed write ends the printing, and the exit status stays 0.
+    let _ = print_all(&rt);
 }

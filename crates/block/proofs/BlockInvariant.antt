@@ -13,7 +13,7 @@ use Rattle.clock.specs.Clock.{clock_modulus, tick}
 use Rattle.clock.specs.Clock.{start as begin}
 use Rattle.clock.specs.declared.Timer.{Timer}
 use Rattle.block.specs.Record.{Dormant, Executing, bit}
-use Rattle.block.specs.Entry.{entry_fits}
+use Rattle.block.specs.Entry.{Entry, entry_fits}
 use Rattle.block.specs.Dormant.{time_out_taken}
 use Rattle.block.specs.Executing.{time_out_of}
 use Rattle.block.specs.Sound.{sound, zeroed, flags_fit, code_sound, request_sound, step_sound, times_sound}
@@ -23,7 +23,6 @@ use Rattle.block.specs.History.{History, fresh, ◌then◌, events_of, record_af
 use Rattle.block.specs.BlockInvariant.{seen_call, MachineHistory, no_call, and_call, is_open, open_job, flag_count, EachCall, nothing, and_seen, BlockInvariantHolds, CallsCountInStep}
 use Rattle.block.specs.declared.record.Record.{Record}
 use Rattle.block.specs.declared.entry.Inputs.{Inputs}
-use Rattle.block.specs.declared.entry.Entry.{Entry}
 use Rattle.block.proofs.Shapes.{is_done, is_error, is_aborted, Settled, idle, runs, aborts, shows, resets, withdraws, settled_of}
 use Rattle.block.proofs.CallLaws.{call_whole}
 use Rattle.block.proofs.SoundLaws.{call_sound}

@@ -7,14 +7,13 @@ use mathlib.Core.Bool.{Bool, true, false}
 use mathlib.Core.Path.{◌≡◌, ◌∙◌, refl, sym, ap}
 use lib.ListN.{length, length-append}
 use Rattle.block.specs.Sound.{sound}
-use Rattle.block.specs.Entry.{entry_fits}
+use Rattle.block.specs.Entry.{Entry, entry_fits}
 use Rattle.block.specs.Event.{emitted}
 use Rattle.block.specs.Rules.{pass}
 use Rattle.block.specs.Call.{Outcome, last_pass, pass_then, Call, stops, goes, call_within, call_of, CallIsWhole, CallIsUnique}
-use Rattle.block.specs.Phases.{rank, Falling, halts, falls}
+use Rattle.block.proofs.Phases.{rank, Falling, halts, falls}
 use Rattle.block.specs.declared.record.Record.{Record}
 use Rattle.block.specs.declared.entry.Inputs.{Inputs}
-use Rattle.block.specs.declared.entry.Entry.{Entry}
 use Rattle.block.proofs.Tests.{choose, never}
 use Rattle.block.proofs.Shapes.{Shape, settled, settled_of}
 use Rattle.block.proofs.Passes.{room, passed, rank_least, rank_most, room_most}
@@ -78,3 +77,7 @@ one_outcome {k} {i} {e} (goes r o h c) (goes s p g d) = ap (λ (x : Outcome). pa
 
 pub call_unique : CallIsUnique
 call_unique k i e r o p c d = one_outcome c d
+
+-- what a call from a sound record computes is a call
+pub is_call : {k : ℕ} {i : Inputs} {e : Entry} {r : Record} {o : Outcome} → sound k r ≡ true → o ≡ call_of k i e r → Call k i e r o
+is_call {k} {i} {e} {r} s is = rw is (call_whole k i e r s).called

@@ -8,18 +8,17 @@ use mathlib.Core.Option.{Option, some}
 use mathlib.Core.Option.{none as nil}
 use mathlib.Core.Path.{◌≡◌, ◌∙◌, refl, sym}
 use lib.ListN.{length, length-append}
-use Rattle.block.specs.Entry.{entry_fits}
+use Rattle.block.specs.Entry.{Entry, entry_fits}
 use Rattle.block.specs.Event.{emitted, is_start, is_finish}
 use Rattle.block.specs.Sound.{sound}
 use Rattle.block.specs.Rules.{pass}
 use Rattle.block.specs.Call.{Outcome, Call, stops, goes}
 use Rattle.block.specs.Turns.{admits, has_start, Turns, end, turn, StartsHave, nothing, one}
 use Rattle.block.specs.BlockInvariant.{open_job}
-use Rattle.block.specs.Phases.{rank}
+use Rattle.block.proofs.Phases.{rank}
 use Rattle.block.specs.declared.record.Record.{Record}
 use Rattle.block.specs.declared.event.Event.{Event}
 use Rattle.block.specs.declared.entry.Inputs.{Inputs}
-use Rattle.block.specs.declared.entry.Entry.{Entry}
 use Rattle.block.proofs.Tests.{never, or_right}
 use Rattle.block.proofs.Shapes.{is_done, is_error, is_aborted, Settled, idle, runs, aborts, shows, resets, withdraws, Shape, settled, settled_of}
 use Rattle.block.proofs.Passes.{room, open_in, passed, room_most}

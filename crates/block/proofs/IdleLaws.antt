@@ -14,7 +14,7 @@ use Rattle.block.specs.Call.{last_pass, call_within, call_of}
 use Rattle.block.specs.Idle.{idle, IdleIsStopped, IdleCallIsUnchanged}
 use Rattle.block.specs.declared.record.Record.{Record}
 use Rattle.block.specs.declared.entry.Inputs.{Inputs}
-use Rattle.block.specs.declared.entry.Entry.{Entry}
+use Rattle.block.specs.Entry.{Entry}
 use Rattle.block.specs.declared.pass.Pass.{Pass}
 use Rattle.block.proofs.Tests.{never}
 

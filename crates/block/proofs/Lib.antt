@@ -1,5 +1,6 @@
 pub mod Tests
 pub mod Pieces
+pub mod Phases
 pub mod Shapes
 pub mod SoundSteps
 pub mod WorkLaws

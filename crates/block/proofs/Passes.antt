@@ -15,7 +15,7 @@ use Rattle.clock.proofs.ClockLaws.{time_out_none}
 use Rattle.clock.specs.declared.Timer.{Timer}
 use Rattle.block.specs.Record.{Dormant, Executing, Done, Error, Aborting, Aborted, Resetting, TimedOut, fresh_record}
 use Rattle.block.specs.Event.{emitted}
-use Rattle.block.specs.Entry.{Complete, ErrorReply, least_error_code, entry_fits}
+use Rattle.block.specs.Entry.{Entry, Complete, ErrorReply, least_error_code, entry_fits}
 use Rattle.block.specs.Pass.{go_on}
 use Rattle.block.specs.Dormant.{dormant, started, limit_taken, time_out_taken}
 use Rattle.block.specs.Executing.{executing, judge, called_off, time_out_of, worked, timed}
@@ -23,12 +23,12 @@ use Rattle.block.specs.Ended.{ended}
 use Rattle.block.specs.Aborting.{aborting}
 use Rattle.block.specs.Resetting.{resetting}
 use Rattle.block.specs.Rules.{rule, pass}
-use Rattle.block.specs.Phases.{is_end, rank}
+use Rattle.block.specs.Ended.{is_end}
+use Rattle.block.proofs.Phases.{rank}
 use Rattle.block.specs.Turns.{admits, has_start, Turns, end, StartsHave, nothing, one}
 use Rattle.block.specs.History.{tick_all, clocks_of}
 use Rattle.block.specs.declared.record.Record.{Record}
 use Rattle.block.specs.declared.entry.Inputs.{Inputs}
-use Rattle.block.specs.declared.entry.Entry.{Entry}
 use Rattle.block.specs.declared.executing.Work.{Work}
 use Rattle.block.specs.declared.pass.Pass.{Pass}
 use Rattle.membership.proofs.Logic.{by_test, and_left, and_right}

@@ -4,12 +4,11 @@ use Prim.Native.Nat.{ℕ}
 use mathlib.Core.Bool.{true}
 use mathlib.Core.Path.{◌≡◌}
 use Rattle.kind.specs.Kind.{is_kind}
-use Rattle.block.specs.Entry.{entry_fits}
+use Rattle.block.specs.Entry.{Entry, entry_fits}
 use Rattle.block.specs.Sound.{sound}
 use Rattle.block.specs.Call.{Outcome, Call, stops, goes}
 use Rattle.block.specs.declared.record.Record.{Record}
 use Rattle.block.specs.declared.entry.Inputs.{Inputs}
-use Rattle.block.specs.declared.entry.Entry.{Entry}
 use Rattle.block.proofs.Shapes.{Settled, Shape, settled, settled_of, sound_of}
 use Rattle.block.proofs.Passes.{passed}
 

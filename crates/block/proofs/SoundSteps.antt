@@ -158,6 +158,9 @@ module _ (k : ℕ) (r : Record) where
       first true flags code request step times h = never h
       first false flags code request step times h = refl
 
+  pub dormant_sound : r.step ≡ Dormant → sound k r ≡ zeroed r
+  dormant_sound h = at_step_lem Dormant h ∙ at_dormant
+
   pub at_executing : sound k (at_step Executing r) ≡ busy_only r.flags && eqb r.code 0 && not r.request && times_sound k r
   unfolding times_sound
   at_executing = executing_flags k r.job r.limit r.timeout r.timer r.flags.busy r.flags.done r.flags.error r.flags.aborted r.request r.code

@@ -13,7 +13,7 @@ use Rattle.clock.specs.declared.Timer.{Timer}
 use Rattle.clock.proofs.ClockLaws.{tick_held, tick_start, tick_out_of_step, tick_in_step, in_time_lem}
 use Rattle.block.specs.Event.{emitted}
 use Rattle.block.specs.Record.{Executing}
-use Rattle.block.specs.Entry.{entry_fits}
+use Rattle.block.specs.Entry.{Entry, entry_fits}
 use Rattle.block.specs.Dormant.{time_out_taken}
 use Rattle.block.specs.Executing.{time_out_of}
 use Rattle.block.specs.Sound.{sound}
@@ -21,10 +21,9 @@ use Rattle.block.specs.Rules.{pass}
 use Rattle.block.specs.Call.{Outcome, pass_then, Call, stops, goes}
 use Rattle.block.specs.Turns.{has_start}
 use Rattle.block.specs.History.{tick_all, clocks_of, in_step}
-use Rattle.block.specs.Phases.{rank}
+use Rattle.block.proofs.Phases.{rank}
 use Rattle.block.specs.declared.record.Record.{Record}
 use Rattle.block.specs.declared.entry.Inputs.{Inputs}
-use Rattle.block.specs.declared.entry.Entry.{Entry}
 use Rattle.block.specs.declared.pass.Pass.{Pass}
 use Rattle.membership.proofs.Logic.{by_test}
 use Rattle.block.proofs.Tests.{never}

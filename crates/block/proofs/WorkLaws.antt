@@ -13,12 +13,11 @@ use Rattle.kind.specs.Kind.{has_time_limit}
 use Rattle.clock.specs.Clock.{most_elapsed, tick}
 use Rattle.clock.specs.declared.Timer.{Timer}
 use Rattle.clock.proofs.ClockLaws.{tick_held}
-use Rattle.block.specs.Entry.{Complete, ErrorReply, most_pieces, least_error_code, code_fits, piece_form, zero_piece, piece_fits, pieces_fit, entry_fits}
+use Rattle.block.specs.Entry.{Entry, Complete, ErrorReply, most_pieces, least_error_code, code_fits, piece_form, zero_piece, piece_fits, pieces_fit, entry_fits}
 use Rattle.block.specs.Executing.{at_call, use_piece, ends_pieces, use_pieces, bounds_of, worked}
 use Rattle.block.specs.History.{tick_all, clocks_of}
 use Rattle.block.specs.declared.record.Record.{Record}
 use Rattle.block.specs.declared.entry.Piece.{Piece}
-use Rattle.block.specs.declared.entry.Entry.{Entry}
 use Rattle.block.specs.declared.executing.Work.{Work}
 use Rattle.block.specs.declared.executing.Bounds.{Bounds}
 use Rattle.membership.proofs.Logic.{and_left, and_right}

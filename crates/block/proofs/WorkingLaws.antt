@@ -7,11 +7,10 @@ use mathlib.Core.List.{[]}
 use mathlib.Core.Path.{◌≡◌, sym, subst}
 use Rattle.block.specs.Record.{Executing}
 use Rattle.block.specs.Sound.{sound}
-use Rattle.block.specs.Entry.{entry_fits}
+use Rattle.block.specs.Entry.{Entry, entry_fits}
 use Rattle.block.specs.Call.{Outcome, Call, stops, goes, call_of}
 use Rattle.block.specs.declared.record.Record.{Record}
 use Rattle.block.specs.declared.entry.Inputs.{Inputs}
-use Rattle.block.specs.declared.entry.Entry.{Entry}
 use Rattle.block.proofs.Shapes.{Settled, settled, settled_of}
 use Rattle.block.proofs.Passes.{running, passed}
 use Rattle.block.proofs.CallLaws.{call_whole}

@@ -6,7 +6,7 @@ use Rattle.kind.specs.Kind.{is_kind}
 use Rattle.clock.specs.Clock.{clock_modulus}
 use Rattle.block.specs.Record.{Dormant, Executing, Aborting, bit}
 use Rattle.block.specs.Event.{Start, DoneEvent, Failed, AbortedEvent, Withdrawn}
-use Rattle.block.specs.Entry.{entry_fits}
+use Rattle.block.specs.Entry.{Entry, entry_fits}
 use Rattle.block.specs.Sound.{sound}
 use Rattle.block.specs.Call.{Call, call_of}
 use Rattle.block.specs.Turns.{Turns, StartsHave, count_of}
@@ -14,7 +14,6 @@ use Rattle.block.specs.History.{Seen, History, fresh, ◌then◌, events_of, rec
 use Rattle.block.specs.declared.record.Flags.{Flags}
 use Rattle.block.specs.declared.record.Record.{Record}
 use Rattle.block.specs.declared.entry.Inputs.{Inputs}
-use Rattle.block.specs.declared.entry.Entry.{Entry}
 
 -- what is seen of a call by the machine
 abbrev pub seen_call : ℕ → Inputs → Entry → Record → Seen

@@ -6,7 +6,7 @@ use Rattle.block.specs.Rules.{pass}
 use Rattle.block.specs.declared.record.Record.{Record}
 use Rattle.block.specs.declared.event.Event.{Event}
 use Rattle.block.specs.declared.entry.Inputs.{Inputs}
-use Rattle.block.specs.declared.entry.Entry.{Entry}
+use Rattle.block.specs.Entry.{Entry}
 use Rattle.block.specs.declared.pass.Pass.{Pass}
 
 -- what a call leaves: the record, its events in order, the pieces used, and the passes

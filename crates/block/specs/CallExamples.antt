@@ -4,12 +4,11 @@
 use Rattle.std.specs.Prelude.{ℕ, true, false, List, [], ◌∷◌, map, ◌++◌, ◌≡◌}
 use Rattle.block.specs.Record.{Dormant, Executing, Done, Error, Aborting, Aborted, Resetting, TimedOut, no_flags}
 use Rattle.block.specs.Event.{Start, DoneEvent, Failed, AbortedEvent}
-use Rattle.block.specs.Entry.{Working, Complete, ErrorReply}
+use Rattle.block.specs.Entry.{Entry, Working, Complete, ErrorReply}
 use Rattle.block.specs.WorkedExamples.{working, complete, error, entry, with_job, start_off, with_time_out, with_limit, with_abort, off_complete}
 use Rattle.block.specs.WorkedExamples.{row, busy, done, failed, aborted, event, Line, ◌shows◌, Case, case, made, expected}
 use Rattle.block.specs.declared.event.Event.{Event}
 use Rattle.block.specs.declared.entry.Piece.{Piece}
-use Rattle.block.specs.declared.entry.Entry.{Entry}
 
 -- a time limit and a time-out with a call clock
 abbrev pub with_times : ℕ → ℕ → ℕ → List Piece → Entry

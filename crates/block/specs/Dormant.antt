@@ -1,5 +1,5 @@
 -- Document 01, "One call": the rule of Dormant.
-use Rattle.std.specs.Prelude.{ℕ, true, cond, ◌&&◌}
+use Rattle.std.specs.Prelude.{ℕ, Some, true, cond, ◌&&◌}
 use Rattle.kind.specs.Kind.{is_edge, has_time_limit, has_time_out}
 use Rattle.clock.specs.Clock.{start}
 use Rattle.block.specs.Record.{Executing}
@@ -7,7 +7,7 @@ use Rattle.block.specs.Event.{Start, event_of}
 use Rattle.block.specs.Pass.{stop}
 use Rattle.block.specs.declared.record.Record.{Record}
 use Rattle.block.specs.declared.entry.Inputs.{Inputs}
-use Rattle.block.specs.declared.entry.Entry.{Entry}
+use Rattle.block.specs.Entry.{Entry}
 use Rattle.block.specs.declared.pass.Pass.{Pass}
 
 -- "edge kinds take the limits that their kind has, level kinds read them each call"
@@ -35,5 +35,5 @@ started k e r =
 unfoldable pub dormant : ℕ → Inputs → Entry → Record → Pass
 dormant k i e r =
     cond i.start
-    (record { next = started k e r; event = event_of Start (started k e r); used = 0; again = true })
+    (record { next = started k e r; event = Some (event_of Start (started k e r)); used = 0; again = true })
     (stop 0 r)

@@ -1,14 +1,18 @@
 -- Document 01, "One call": the rule of Done, Error and Aborted.
-use Rattle.std.specs.Prelude.{ℕ, Bool, false, cond, not, ◌&&◌, ◌||◌, eqb}
+use Rattle.std.specs.Prelude.{ℕ, Bool, Option, None, Some, false, cond, not, ◌&&◌, ◌||◌, eqb}
 use Rattle.kind.specs.Kind.{is_edge}
 use Rattle.block.specs.Record.{Done, Error, Aborted, Resetting, at_step}
-use Rattle.block.specs.Event.{DoneEvent, Failed, AbortedEvent, no_event, event_of}
+use Rattle.block.specs.Event.{DoneEvent, Failed, AbortedEvent, event_of}
 use Rattle.block.specs.Pass.{go_on}
 use Rattle.block.specs.declared.record.Flags.{Flags}
 use Rattle.block.specs.declared.record.Record.{Record}
 use Rattle.block.specs.declared.event.Event.{Event}
 use Rattle.block.specs.declared.entry.Inputs.{Inputs}
 use Rattle.block.specs.declared.pass.Pass.{Pass}
+
+-- "Done, Error, Aborted": the end steps, which have one rule
+abbrev pub is_end : ℕ → Bool
+is_end n = eqb n Done || eqb n Error || eqb n Aborted
 
 -- the flag of the step
 abbrev pub own_flag : ℕ → Flags → Bool
@@ -41,12 +45,12 @@ shown k i r =
     }
 
 -- "The first showing writes the finish event."
-abbrev pub finish_event : Record → Event
+abbrev pub finish_event : Record → Option Event
 finish_event r =
-    cond (own_flag r.step r.flags) no_event
-    (cond (eqb r.step Done) (event_of DoneEvent r)
-    (cond (eqb r.step Error) (event_of Failed r)
-    (event_of AbortedEvent r)))
+    cond (own_flag r.step r.flags) None
+    (cond (eqb r.step Done) (Some (event_of DoneEvent r))
+    (cond (eqb r.step Error) (Some (event_of Failed r))
+    (Some (event_of AbortedEvent r))))
 
 -- "to Resetting, again. Otherwise clear busy, set the own flag, reset request = not start ..., stop."
 unfoldable pub ended : ℕ → Inputs → Record → Pass

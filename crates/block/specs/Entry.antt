@@ -1,7 +1,11 @@
 -- Document 01, "Frame entry": which entries are as the paper says, by their fields (check 31).
 use Rattle.std.specs.Prelude.{ℕ, suc, Bool, true, not, ◌&&◌, ◌||◌, List, [], ◌∷◌, eqb, leb, ltb}
 use Rattle.block.specs.declared.entry.Piece.{Piece}
-use Rattle.block.specs.declared.entry.Entry.{Entry}
+use Rattle.block.specs.declared.entry.EntryOf.{EntryOf}
+
+-- "A frame entry has": its fields, the pieces one by one
+abbrev pub Entry : Type 0
+Entry = EntryOf (List Piece)
 
 -- "Replies: 0 working, 1 complete, 2 error"
 abbrev pub Working : ℕ

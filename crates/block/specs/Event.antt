@@ -1,5 +1,5 @@
 -- Document 01, "Report and journal": the events of a block, without their position.
-use Rattle.std.specs.Prelude.{ℕ, Bool, cond, List, [], ◌∷◌, eqb}
+use Rattle.std.specs.Prelude.{ℕ, Bool, cond, List, [], ◌∷◌, Option, None, Some, eqb}
 use Rattle.membership.specs.Membership.{within}
 use Rattle.block.specs.declared.record.Record.{Record}
 use Rattle.block.specs.declared.event.Event.{Event}
@@ -20,17 +20,14 @@ AbortedEvent = 4
 abbrev pub Withdrawn : ℕ
 Withdrawn = 5
 
--- no event has the kind 0
-abbrev pub no_event : Event
-no_event = record { kind = 0; code = 0; job = 0 }
-
 -- an event of the record's job; "code (2; 0 unless failed)"
 abbrev pub event_of : ℕ → Record → Event
 event_of n r = record { kind = n; code = cond (eqb n Failed) r.code 0; job = r.job }
 
--- the events that one stands for: itself, or none
-abbrev pub emitted : Event → List Event
-emitted v = cond (eqb v.kind 0) [] (v ∷ [])
+-- the events of a pass: one, or none
+abbrev pub emitted : Option Event → List Event
+emitted None = []
+emitted (Some v) = v ∷ []
 
 -- "Kind 1 is a start, 2 to 5 are finishes."
 abbrev pub is_start : Event → Bool

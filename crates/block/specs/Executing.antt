@@ -3,12 +3,11 @@ use Rattle.std.specs.Prelude.{ℕ, ◌+◌, Bool, cond, not, ◌&&◌, ◌||◌,
 use Rattle.kind.specs.Kind.{is_edge, has_abort, has_time_limit, has_time_out, is_continuous}
 use Rattle.clock.specs.Clock.{tick, past_limit, past_time_out}
 use Rattle.block.specs.Record.{Done, Aborting, TimedOut, at_step, failed_with}
-use Rattle.block.specs.Entry.{Working, Complete, ErrorReply}
+use Rattle.block.specs.Entry.{Entry, Working, Complete, ErrorReply}
 use Rattle.block.specs.Pass.{go_on, stop}
 use Rattle.block.specs.declared.record.Record.{Record}
 use Rattle.block.specs.declared.entry.Inputs.{Inputs}
 use Rattle.block.specs.declared.entry.Piece.{Piece}
-use Rattle.block.specs.declared.entry.Entry.{Entry}
 use Rattle.block.specs.declared.executing.Work.{Work}
 use Rattle.block.specs.declared.executing.Bounds.{Bounds}
 use Rattle.block.specs.declared.pass.Pass.{Pass}

@@ -10,7 +10,7 @@ use Rattle.block.specs.declared.record.Record.{Record}
 use Rattle.block.specs.declared.event.Event.{Event}
 use Rattle.block.specs.declared.entry.Inputs.{Inputs}
 use Rattle.block.specs.declared.entry.Piece.{Piece}
-use Rattle.block.specs.declared.entry.Entry.{Entry}
+use Rattle.block.specs.Entry.{Entry}
 
 -- What is seen of a block in an accepted scan: the record before, the inputs after wires, its frame entry, the passes and pieces
 -- used as its report states them, its events, and the record after.

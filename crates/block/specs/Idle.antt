@@ -5,7 +5,7 @@ use Rattle.block.specs.Rules.{pass}
 use Rattle.block.specs.Call.{unchanged, call_of}
 use Rattle.block.specs.declared.record.Record.{Record}
 use Rattle.block.specs.declared.entry.Inputs.{Inputs}
-use Rattle.block.specs.declared.entry.Entry.{Entry}
+use Rattle.block.specs.Entry.{Entry}
 
 -- "Dormant with start false": by the start of its call, its wire resolved, and the step of its record
 abbrev pub idle : Bool → ℕ → Bool

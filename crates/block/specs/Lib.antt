@@ -12,7 +12,6 @@ pub mod Resetting
 pub mod Rules
 pub mod Call
 pub mod CallResult
-pub mod Phases
 pub mod Idle
 pub mod Turns
 pub mod History

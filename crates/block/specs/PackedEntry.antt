@@ -1,9 +1,13 @@
 -- A frame entry whose pieces are numbers of eight bytes, and the entry that it stands for. For the contracts of the rules, of `call`
 -- and of `decode_entry`; the entry of document 01 is the one that it stands for.
-use Rattle.std.specs.Prelude.{ℕ, ◌/◌, ◌%◌, map}
+use Rattle.std.specs.Prelude.{ℕ, ◌/◌, ◌%◌, List, map}
 use Rattle.block.specs.declared.entry.Piece.{Piece}
-use Rattle.block.specs.declared.entry.Entry.{Entry}
-use Rattle.block.specs.declared.entry.PackedEntry.{PackedEntry}
+use Rattle.block.specs.declared.entry.EntryOf.{EntryOf}
+use Rattle.block.specs.Entry.{Entry}
+
+-- the same with its pieces as numbers
+abbrev pub PackedEntry : Type 0
+PackedEntry = EntryOf (List ℕ)
 
 -- the piece in a number: its reply in the lowest byte, an unnamed byte, its code in two, its clock in four
 abbrev pub piece_of : ℕ → Piece

@@ -4,13 +4,12 @@ use Rattle.std.specs.Prelude.{ℕ, true, false, List, [], ◌∷◌, map, ◌++�
 use Rattle.clock.specs.Clock.{most_elapsed}
 use Rattle.clock.specs.declared.Timer.{Timer}
 use Rattle.block.specs.Record.{fresh_record}
-use Rattle.block.specs.Entry.{Working}
+use Rattle.block.specs.Entry.{Entry, Working}
 use Rattle.block.specs.Call.{call_of}
 use Rattle.block.specs.WorkedExamples.{working, complete, error, entry, start_off}
 use Rattle.block.specs.CallExamples.{with_times}
 use Rattle.block.specs.declared.record.Record.{Record}
 use Rattle.block.specs.declared.entry.Piece.{Piece}
-use Rattle.block.specs.declared.entry.Entry.{Entry}
 
 -- a call, and the last reading and elapsed that it is to leave
 infix 70 ◌leaves◌

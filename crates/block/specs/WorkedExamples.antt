@@ -3,13 +3,12 @@
 use Rattle.std.specs.Prelude.{ℕ, Bool, true, false, List, [], ◌∷◌, ◌++◌, map, ◌≡◌, length, take, replicate}
 use Rattle.block.specs.Record.{Dormant, Executing, Done, Error, Aborted, TimedOut, no_flags, fresh_record}
 use Rattle.block.specs.Event.{Start, DoneEvent, Failed, AbortedEvent, Withdrawn}
-use Rattle.block.specs.Entry.{Working, Complete, ErrorReply, most_pieces}
+use Rattle.block.specs.Entry.{Entry, Working, Complete, ErrorReply, most_pieces}
 use Rattle.block.specs.Call.{Outcome, call_of}
 use Rattle.block.specs.declared.record.Flags.{Flags}
 use Rattle.block.specs.declared.record.Record.{Record}
 use Rattle.block.specs.declared.event.Event.{Event}
 use Rattle.block.specs.declared.entry.Piece.{Piece}
-use Rattle.block.specs.declared.entry.Entry.{Entry}
 
 -- a piece, by its clock
 abbrev pub working : ℕ → Piece

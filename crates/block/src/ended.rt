@@ -1,11 +1,12 @@
-// The rule of Done, Error and Aborted.
+// The rule of Done, Error and Aborted (docs/RULES.md, One call).
 ghost use Rattle.std.specs.Prelude.{◌≡◌};
 ghost use Rattle.block.specs.Ended.{own_flag, request_shown, reset_due, shown, finish_event, ended};
 
-use crate::entry::Inputs;
+use crate::entry::{Given, Inputs};
 use crate::event::Event;
 use crate::pass::Pass;
 use crate::record::{Flags, Record};
+use kind::Kind;
 
 // The flag of the step.
 fn own_flag(step: u8, f: Flags) -> bool
@@ -21,14 +22,14 @@ fn own_flag(step: u8, f: Flags) -> bool
 }
 
 // The reset request: not start, which level Done leaves 0.
-fn request_shown(kind: u8, step: u8, start: bool) -> bool
+fn request_shown(kind: Kind, step: u8, start: bool) -> bool
     ensures { result ≡ request_shown kind step start }
 {
-    !((step == Record::DONE) & !kind::is_edge(kind)) & !start
+    !((step == Record::DONE) & !kind.is_edge()) & !start
 }
 
 // Busy cleared, the step's own flag set, and the reset request.
-fn shown(kind: u8, i: Inputs, mut r: Record) -> Record
+fn shown(kind: Kind, i: Inputs, mut r: Record) -> Record
     ensures { result ≡ shown kind i r }
 {
     let step = r.step;
@@ -43,22 +44,6 @@ fn shown(kind: u8, i: Inputs, mut r: Record) -> Record
     r
 }
 
-// The first showing writes the finish event.
-fn finish_event(r: Record) -> Event
-    ensures { result ≡ finish_event r }
-{
-    if own_flag(r.step, r.flags) {
-        return Event::none();
-    }
-    if r.step == Record::DONE {
-        return Event::of(Event::DONE, r);
-    }
-    if r.step == Record::ERROR {
-        return Event::of(Event::FAILED, r);
-    }
-    Event::of(Event::ABORTED, r)
-}
-
 // Own flag already set, and start false or reset request 1.
 fn reset_due(i: Inputs, r: Record) -> bool
     ensures { result ≡ reset_due i r }
@@ -66,16 +51,37 @@ fn reset_due(i: Inputs, r: Record) -> bool
     own_flag(r.step, r.flags) & (!i.start | r.request)
 }
 
-pub fn ended(kind: u8, i: Inputs, r: Record) -> Pass
-    ensures { result ≡ ended kind i r }
+// The first showing writes the finish event.
+fn finish_event(r: Record) -> Option<Event>
+    ensures { result ≡ finish_event r }
 {
-    if reset_due(i, r) {
-        return Pass::go_on(0, r.at_step(Record::RESETTING));
+    if own_flag(r.step, r.flags) {
+        return None;
     }
-    Pass {
-        next: shown(kind, i, r),
-        event: finish_event(r),
-        used: 0,
-        again: false,
+    if r.step == Record::DONE {
+        return Some(Event::of(Event::DONE, r));
+    }
+    if r.step == Record::ERROR {
+        return Some(Event::of(Event::FAILED, r));
+    }
+    Some(Event::of(Event::ABORTED, r))
+}
+
+impl Given {
+    /// A pass in Done, Error or Aborted: the end step is shown, or its reset begins.
+    #[tactic(auto, unfolding(crate::specs::Ended::ended))]
+    pub fn ended(self, r: Record) -> Pass
+        ensures { result ≡ ended self.kind self.inputs r }
+    {
+        let Given { kind, inputs, .. } = self;
+        if reset_due(inputs, r) {
+            return Pass::go_on(0, r.at_step(Record::RESETTING));
+        }
+        Pass {
+            next: shown(kind, inputs, r),
+            event: finish_event(r),
+            used: 0,
+            again: false,
+        }
     }
 }

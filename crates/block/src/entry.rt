@@ -3,26 +3,29 @@ ghost use Rattle.std.specs.Prelude.{◌≡◌};
 ghost use Rattle.block.specs.Entry.{code_fits};
 ghost use Rattle.block.specs.PackedEntry.{piece_of};
 
-// Start is Execute on an edge block and Enable on a level block.
-#[derive(Clone, Copy)]
+use kind::Kind;
+
+/// The inputs of a call. Start is Execute on an edge block and Enable on a level block.
+#[derive(Clone, Copy, Debug, Default, PartialEq, Eq)]
 pub struct Inputs {
     pub start: bool,
     pub abort: bool,
 }
 
-// The pieces of an entry.
+/// How many pieces an entry has place for.
 pub const PIECES: usize = 4;
 
-#[derive(Clone, Copy)]
+/// A piece: a reply, its error code, and the clock after it.
+#[derive(Clone, Copy, Debug, PartialEq, Eq)]
 pub struct Piece {
     pub reply: u8,
     pub code: u16,
     pub clock: u32,
 }
 
-// `inputs` are the frame's own bits; a wired input is resolved before the call.
+/// A frame entry whose pieces are `P`. `inputs` are the frame's own bits; a wired input is resolved before the call.
 #[derive(Clone, Copy)]
-pub struct Entry {
+pub struct EntryOf<P> {
     pub inputs: Inputs,
     pub count: u8,
     pub abort_reply: u8,
@@ -32,24 +35,25 @@ pub struct Entry {
     pub limit: u32,
     pub timeout: u32,
     pub clock: u32,
-    pub pieces: [Piece; PIECES],
+    pub pieces: P,
 }
 
-// The same with each piece as the number in its eight bytes, which is taken apart where the piece is used.
+/// The entry of docs/RULES.md, "Frame entry".
+pub type Entry = EntryOf<[Piece; PIECES]>;
+
+/// The same with each piece as the number in its eight bytes, which is taken apart where the piece is used.
+pub type PackedEntry = EntryOf<[u64; PIECES]>;
+
+/// What a call of a block is given: its kind, its inputs and its entry. The rules are its methods.
 #[derive(Clone, Copy)]
-pub struct PackedEntry {
+pub struct Given {
+    pub kind: Kind,
     pub inputs: Inputs,
-    pub count: u8,
-    pub abort_reply: u8,
-    pub reset_reply: u8,
-    pub abort_code: u16,
-    pub job: u64,
-    pub limit: u32,
-    pub timeout: u32,
-    pub clock: u32,
-    pub pieces: [u64; PIECES],
+    pub entry: PackedEntry,
 }
 
+// Replies stay numbers: an enum of three takes 2.3 percent more instructions of a working block and 3.2 of one that turns over, and `call_of` is defined
+// for any byte.
 impl Entry {
     pub const WORKING: u8 = 0;
 
@@ -57,14 +61,14 @@ impl Entry {
 
     pub const ERROR: u8 = 2;
 
-    // The greatest count.
+    /// The greatest count.
     pub const MOST_PIECES: u8 = PIECES as u8;
 
-    // The least code of an error reply.
+    /// The least code of an error reply.
     pub const LEAST_CODE: u16 = 2;
 }
 
-// The piece in a number.
+/// The piece in a number.
 pub fn piece_of(word: u64) -> Piece
     ensures { result ≡ piece_of word }
 {
@@ -75,7 +79,7 @@ pub fn piece_of(word: u64) -> Piece
     }
 }
 
-// A code from the least on with an error reply, else 0.
+/// A code from the least on with an error reply, else 0.
 pub fn code_fits(reply: u8, code: u16) -> bool
     ensures { result ≡ code_fits reply code }
 {

@@ -1,11 +1,11 @@
 // What a call writes to the journal; the position is added by the journal's writer.
 ghost use Rattle.std.specs.Prelude.{◌≡◌};
-ghost use Rattle.block.specs.Event.{no_event, event_of};
+ghost use Rattle.block.specs.Event.{event_of};
 
 use crate::record::Record;
 
-// `kind` 0 is no event.
-#[derive(Clone, Copy)]
+/// An event of a block. Its kind is a number and no enum: the promise of a list of scans and check 71 read it off any byte.
+#[derive(Clone, Copy, Debug, PartialEq, Eq)]
 pub struct Event {
     pub kind: u8,
     pub code: u16,
@@ -23,17 +23,7 @@ impl Event {
 
     pub const WITHDRAWN: u8 = 5;
 
-    pub fn none() -> Event
-        ensures { result ≡ no_event }
-    {
-        Event {
-            kind: 0,
-            code: 0,
-            job: 0,
-        }
-    }
-
-    // The event of a kind for the record's job.
+    /// The event of a kind for the record's job.
     pub fn of(kind: u8, r: Record) -> Event
         ensures { result ≡ event_of kind r }
     {

@@ -1,15 +1,16 @@
-// The rule of Executing.
-ghost use Rattle.std.specs.Prelude.{◌≡◌, ◌+◌, ◌<◌, ◌≤◌, map, take};
+// The rule of Executing (docs/RULES.md, One call).
+ghost use Rattle.std.specs.Prelude.{◌≡◌, ◌+◌, ◌<◌, ◌≤◌, cond, map, take};
 ghost use Rattle.block.specs.PackedEntry.{piece_of, entry_of};
 ghost use Rattle.block.specs.Entry.{most_pieces};
-ghost use Rattle.block.specs.Executing.{called_off, limit_of, time_out_of, at_call, use_piece, ends_pieces, use_pieces, timed, judge, executing};
+ghost use Rattle.block.specs.Executing.{called_off, at_call, use_piece, ends_pieces, use_pieces, timed, judge, executing};
 
-use crate::entry::{Entry, Inputs, PIECES, PackedEntry, Piece, piece_of};
+use crate::entry::{Entry, Given, Inputs, PIECES, PackedEntry, Piece, piece_of};
 use crate::pass::Pass;
 use crate::record::Record;
 use clock::Timer;
+use kind::Kind;
 
-// Where the pieces of a call stand: the time counted, the last reply with its code, and the pieces used.
+/// Where the pieces of a call stand: the time counted, the last reply with its code, and the pieces used.
 #[derive(Clone, Copy)]
 pub struct Work {
     pub timer: Timer,
@@ -18,7 +19,7 @@ pub struct Work {
     pub used: u8,
 }
 
-// What ends the pieces of a call: the bounds in force, and the call clock.
+/// What ends the pieces of a call: the bounds in force, and the call clock.
 #[derive(Clone, Copy)]
 pub struct Bounds {
     pub limit: u32,
@@ -26,40 +27,27 @@ pub struct Bounds {
     pub call: u32,
 }
 
+// The time in force, 0 for none: edge kinds go by the stored one, level kinds by their entry's.
+fn in_force(has: bool, edge: bool, stored: u32, given: u32) -> u32
+    ensures { result ≡ cond has (cond edge stored given) 0 }
+{
+    if has {
+        if edge {
+            return stored;
+        }
+        return given;
+    }
+    0
+}
+
 // Edge with abort true, or level with start false.
-fn called_off(kind: u8, i: Inputs) -> bool
+fn called_off(kind: Kind, i: Inputs) -> bool
     ensures { result ≡ called_off kind i }
 {
-    if kind::is_edge(kind) {
-        return kind::has_abort(kind) & i.abort;
+    if kind.is_edge() {
+        return kind.has_abort() & i.abort;
     }
     !i.start
-}
-
-// The time limit in force, 0 for none.
-fn limit_of(kind: u8, e: PackedEntry, r: Record) -> u32
-    ensures { result ≡ limit_of kind (entry_of e) r }
-{
-    if kind::has_time_limit(kind) {
-        if kind::is_edge(kind) {
-            return r.limit;
-        }
-        return e.limit;
-    }
-    0
-}
-
-// The time-out in force, 0 for none.
-fn time_out_of(kind: u8, e: PackedEntry, r: Record) -> u32
-    ensures { result ≡ time_out_of kind (entry_of e) r }
-{
-    if kind::has_time_out(kind) {
-        if kind::is_edge(kind) {
-            return r.timeout;
-        }
-        return e.timeout;
-    }
-    0
 }
 
 // Before the first piece: the time to the call clock is added.
@@ -76,6 +64,7 @@ fn at_call(e: PackedEntry, r: Record) -> Work
     }
 }
 
+// A piece is used: its time is added, and its reply is the last one.
 fn use_piece(w: Work, p: Piece) -> Work
     requires { w.used < 255 }
     ensures { result ≡ use_piece w p }
@@ -101,20 +90,19 @@ fn ends_pieces(several: bool, b: Bounds, w: Work, p: Piece) -> bool
         | timer.past_time_out(b.timeout)
 }
 
+// Pieces are used in order until one ends them or none is left.
+#[tactic(auto, using(crate::proofs::Pieces::used_all, crate::proofs::Pieces::used_next, crate::proofs::Pieces::taken_pieces))]
 fn use_pieces(several: bool, b: Bounds, count: u8, ps: [u64; PIECES], from: Work) -> Work
     requires { (count ≤ most_pieces) × (from.used ≤ 0) }
     ensures { result ≡ use_pieces several b from (take count (map piece_of ps)) }
 {
-    let n = count as usize;
     let mut w = from;
-    let mut i = 0;
-    while i < n {
-        let p = piece_of(ps[i]);
+    for word in &ps[..count as usize] {
+        let p = piece_of(*word);
         w = use_piece(w, p);
         if ends_pieces(several, b, w, p) {
             return w;
         }
-        i += 1;
     }
     w
 }
@@ -148,20 +136,30 @@ fn judge(continuous: bool, timeout: u32, w: Work, r: Record) -> Pass
     Pass::stop(w.used, next)
 }
 
-pub fn executing(kind: u8, i: Inputs, e: PackedEntry, r: Record) -> Pass
-    requires { e.count ≤ most_pieces }
-    ensures { result ≡ executing kind i (entry_of e) r }
-{
-    if called_off(kind, i) {
-        return Pass::go_on(0, r.at_step(Record::ABORTING));
+impl Given {
+    /// A pass in Executing: called off, or the pieces used and judged.
+    #[tactic(auto, unfolding(crate::specs::Executing::executing))]
+    pub fn executing(self, r: Record) -> Pass
+        requires { self.entry.count ≤ most_pieces }
+        ensures { result ≡ executing self.kind self.inputs (entry_of self.entry) r }
+    {
+        let Given {
+            kind,
+            inputs,
+            entry,
+        } = self;
+        if called_off(kind, inputs) {
+            return Pass::go_on(0, r.at_step(Record::ABORTING));
+        }
+        let edge = kind.is_edge();
+        let several = kind.has_time_limit();
+        let timeout = in_force(kind.has_time_out(), edge, r.timeout, entry.timeout);
+        let b = Bounds {
+            limit: in_force(several, edge, r.limit, entry.limit),
+            timeout,
+            call: entry.clock,
+        };
+        let w = use_pieces(several, b, entry.count, entry.pieces, at_call(entry, r));
+        judge(kind.is_continuous(), timeout, w, r)
     }
-    let timeout = time_out_of(kind, e, r);
-    let b = Bounds {
-        limit: limit_of(kind, e, r),
-        timeout,
-        call: e.clock,
-    };
-    let ps = e.pieces;
-    let w = use_pieces(kind::has_time_limit(kind), b, e.count, ps, at_call(e, r));
-    judge(kind::is_continuous(kind), timeout, w, r)
 }

@@ -4,7 +4,7 @@ ghost use Rattle.block.specs.Idle.{idle};
 
 use crate::record::Record;
 
-// Dormant, and start false.
+/// Dormant, and start false.
 pub fn is_idle(start: bool, step: u8) -> bool
     ensures { result ≡ idle start step }
 {

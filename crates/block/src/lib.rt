@@ -1,6 +1,6 @@
 #![tactic(auto)]
 
-// The block machine of document 01, "One call": a call of one block, by one function for each rule.
+// The block machine (docs/RULES.md, One call): a call of one block, by one function for each rule.
 pub mod record; // the state record, its flags and its steps
 pub mod event; // what a call writes to the journal
 pub mod entry; // the frame entry, and the inputs of a call

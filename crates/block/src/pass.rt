@@ -5,35 +5,35 @@ ghost use Rattle.block.specs.Pass.{go_on, stop};
 use crate::event::Event;
 use crate::record::Record;
 
-// What a pass leaves: the record, at most one event, the pieces used, and whether the call goes on.
+/// What a pass leaves: the record, at most one event, the pieces used, and whether the call goes on.
 #[derive(Clone, Copy)]
 pub struct Pass {
     pub next: Record,
-    pub event: Event,
+    pub event: Option<Event>,
     pub used: u8,
     pub again: bool,
 }
 
 impl Pass {
-    // The call goes on; no event.
+    /// The call goes on; no event.
     pub fn go_on(used: u8, next: Record) -> Pass
         ensures { result ≡ go_on used next }
     {
         Pass {
             next,
-            event: Event::none(),
+            event: None,
             used,
             again: true,
         }
     }
 
-    // The call stops; no event.
+    /// The call stops; no event.
     pub fn stop(used: u8, next: Record) -> Pass
         ensures { result ≡ stop used next }
     {
         Pass {
             next,
-            event: Event::none(),
+            event: None,
             used,
             again: false,
         }

@@ -1,10 +1,11 @@
-// The state record of one block.
+// The state record of one block (docs/RULES.md, State record).
 ghost use Rattle.std.specs.Prelude.{◌≡◌};
 ghost use Rattle.block.specs.Record.{fresh_record, at_step, failed_with};
 
 use clock::Timer;
 
-#[derive(Clone, Copy)]
+/// The flags of a record.
+#[derive(Clone, Copy, Debug, PartialEq, Eq)]
 pub struct Flags {
     pub busy: bool,
     pub done: bool,
@@ -12,7 +13,46 @@ pub struct Flags {
     pub aborted: bool,
 }
 
-// `request` is the reset request; `limit` and `timeout` are the time limit and the time-out taken at the start.
+impl Flags {
+    /// No flag, and each flag alone.
+    pub const NONE: Flags = Flags {
+        busy: false,
+        done: false,
+        error: false,
+        aborted: false,
+    };
+
+    pub const BUSY: Flags = Flags {
+        busy: true,
+        done: false,
+        error: false,
+        aborted: false,
+    };
+
+    pub const DONE: Flags = Flags {
+        busy: false,
+        done: true,
+        error: false,
+        aborted: false,
+    };
+
+    pub const ERROR: Flags = Flags {
+        busy: false,
+        done: false,
+        error: true,
+        aborted: false,
+    };
+
+    pub const ABORTED: Flags = Flags {
+        busy: false,
+        done: false,
+        error: false,
+        aborted: true,
+    };
+}
+
+/// A state record. `request` is the reset request; `limit` and `timeout` are the time limit and the time-out taken at the start.
+// 0 for none and no Option: the rules store 0, and the one test of it is in crate clock.
 #[derive(Clone, Copy)]
 pub struct Record {
     pub step: u8,
@@ -25,6 +65,7 @@ pub struct Record {
     pub timer: Timer,
 }
 
+// The steps are numbers: the form of the rules, and a record is read off any byte.
 impl Record {
     pub const DORMANT: u8 = 0;
 
@@ -40,21 +81,16 @@ impl Record {
 
     pub const RESETTING: u8 = 6;
 
-    // The error code of a time-out.
+    /// The error code of a time-out.
     pub const TIMED_OUT: u16 = 1;
 
-    // The fresh record, all zero.
+    /// The fresh record, all zero.
     pub fn fresh() -> Record
         ensures { result ≡ fresh_record }
     {
         Record {
             step: Record::DORMANT,
-            flags: Flags {
-                busy: false,
-                done: false,
-                error: false,
-                aborted: false,
-            },
+            flags: Flags::NONE,
             request: false,
             job: 0,
             code: 0,
@@ -67,7 +103,7 @@ impl Record {
         }
     }
 
-    // The record at another step.
+    /// The record at another step.
     pub fn at_step(mut self, step: u8) -> Record
         ensures { result ≡ at_step step self }
     {
@@ -75,7 +111,7 @@ impl Record {
         self
     }
 
-    // The record at Error, with a code.
+    /// The record at Error, with a code.
     pub fn failed_with(mut self, code: u16) -> Record
         ensures { result ≡ failed_with code self }
     {

@@ -1,16 +1,15 @@
 // LANE0 beside LANEO: two lanes with look-alike tags, each with its own truck. A job is the appointment number of a truck.
 use crate::frame::{complete, with_job, working};
-use crate::read::readable;
-use crate::text::{column, number, print};
-use crate::{line, names};
+use crate::line;
+use crate::names::EventText;
 use block::entry::Entry;
-use engine::scan::Scanned;
+use image::{HEADER_LENGTH, SLOT_LENGTH};
 use layout::entry::ENTRY_BYTES;
 use layout::event::{EVENT_BYTES, decode_event};
 use layout::record::RECORD_BYTES;
 use layout::report::REPORT_BYTES;
-use table::check::Checked;
-use table::lookup::Found;
+use refusal::Answer;
+use std::io;
 
 // Appointment numbers that agree in their low four bytes.
 const FIRST_TRUCK: u64 = 1001;
@@ -21,67 +20,61 @@ const THIRD_TRUCK: u64 = 4294967296 + FIRST_TRUCK;
 
 const FOURTH_TRUCK: u64 = 4294967296 * 4294967295 + FIRST_TRUCK;
 
+const FIRST_TAG: &str = "LANE0   ";
+
+const SECOND_TAG: &str = "LANEO   ";
+
+// Bytes of an image of two slots.
+const TWO_SLOTS: usize = HEADER_LENGTH + 2 * SLOT_LENGTH;
+
 // Two blocks of kind 1: LANE0 in slot 1, LANEO in slot 2.
-fn image() -> [u8; 36] {
+fn image() -> [u8; TWO_SLOTS] {
     *b"\x01\x02\x01\0\x01\x02\0\0\0\0\0\0LANE0   \x01\0\0\0\0\0\0\0LANEO   "
 }
 
-// The position of a tag, 0 where it is not found.
-fn position_of(tag: &[u8]) -> usize {
-    let image = image();
-    let found = table::lookup::find(&image, tag);
-    match found {
-        Found::At(position) => position,
-        Found::Refused(_, _) => 0,
-    }
+fn position_of(tag: &str) -> Answer {
+    table::lookup::find(&image(), tag.as_bytes())
 }
 
-fn found_line(rt: &impl Print, tag: &[u8]) {
-    column(rt, tag, 10);
-    print(rt, b"position ");
-    number(rt, position_of(tag) as u64);
-    print(rt, b"\n");
+fn print_found(rt: &impl Print, tag: &str) -> io::Result<()> {
+    match position_of(tag) {
+        Ok(position) => println!(rt; "{tag:<10} position {position}"),
+        Err(refusal) => println!(rt; "{tag:<10} {refusal}"),
+    }
 }
 
 // The report entry of a tag, by its position.
-fn report_line(rt: &impl Print, tag: &[u8], report: &[u8; 2 * REPORT_BYTES]) {
+fn print_lane(rt: &impl Print, tag: &str, report: &[u8; 2 * REPORT_BYTES]) -> io::Result<()> {
+    let (entries, _) = report.as_chunks::<REPORT_BYTES>();
     match position_of(tag) {
-        1 => line::report_at(rt, tag, report, 0),
-        2 => line::report_at(rt, tag, report, REPORT_BYTES),
-        _ => column(rt, tag, 10),
+        Ok(1) => line::print_report(rt, tag, &entries[0]),
+        Ok(2) => line::print_report(rt, tag, &entries[1]),
+        _ => println!(rt; "{tag:<10} "),
     }
-    print(rt, b"\n");
 }
 
-// The tag that is found at a position.
-fn print_tag(rt: &impl Print, position: usize) {
-    if position_of(b"LANE0   ") == position {
-        print(rt, b"LANE0 ");
-        return;
+// The tag that is found at a position, without its spaces.
+fn tag_at(position: usize) -> &'static str {
+    if position_of(FIRST_TAG) == Ok(position) {
+        return FIRST_TAG.trim_end();
     }
-    if position_of(b"LANEO   ") == position {
-        print(rt, b"LANEO ");
-        return;
+    if position_of(SECOND_TAG) == Ok(position) {
+        return SECOND_TAG.trim_end();
     }
-    print(rt, b"? ");
+    "?"
 }
 
 // The first events of the journal, each with the tag of its block.
-fn journal_line(rt: &impl Print, journal: &[u8], count: usize) {
-    column(rt, b"journal", 10);
-    let n = readable(count, journal);
-    let mut i = 0;
-    while i < n {
-        if 0 < i {
-            print(rt, b", ");
-        }
-        let at = EVENT_BYTES * i;
-        let posted = decode_event(&journal[at..]);
-        print_tag(rt, posted.position as usize);
-        names::event(rt, posted.event);
-        i += 1;
+fn print_journal(rt: &impl Print, journal: &[u8], count: usize) -> io::Result<()> {
+    print!(rt; "{:<10} ", "journal")?;
+    for (i, bytes) in journal.chunks_exact(EVENT_BYTES).take(count).enumerate() {
+        let separator = if i == 0 { "" } else { ", " };
+        let posted = decode_event(bytes);
+        let tag = tag_at(usize::from(posted.position));
+        let event = EventText(posted.event);
+        print!(rt; "{separator}{tag} {event}")?;
     }
-    print(rt, b"\n");
+    println!(rt;)
 }
 
 fn frame_of(first: Entry, second: Entry) -> [u8; 2 * ENTRY_BYTES] {
@@ -91,86 +84,60 @@ fn frame_of(first: Entry, second: Entry) -> [u8; 2 * ENTRY_BYTES] {
     frame
 }
 
-fn answer_lines(
-    rt: &impl Print,
-    name: &[u8],
-    answer: Scanned,
-    report: &[u8; 2 * REPORT_BYTES],
-    journal: &[u8; 4 * EVENT_BYTES],
-) {
-    match answer {
-        Scanned::Events(count) => {
-            line::heading(rt, name);
-            print(rt, b"truck\n");
-            report_line(rt, b"LANE0   ", report);
-            report_line(rt, b"LANEO   ", report);
-            journal_line(rt, journal, count);
-        }
-        Scanned::Refused(number, place) => {
-            column(rt, name, 10);
-            names::refusal(rt, number, place);
-            print(rt, b"\n");
-        }
-    }
-}
-
 fn scan(
     rt: &impl Print,
-    name: &[u8],
+    name: &str,
     state: &mut [u8; 2 * RECORD_BYTES],
     first: Entry,
     second: Entry,
-) {
-    let image = image();
+) -> io::Result<()> {
     let frame = frame_of(first, second);
     let mut report = [0; 2 * REPORT_BYTES];
     let mut journal = [0; 4 * EVENT_BYTES];
-    let answer = engine::scan::scan(&image, state, &frame, &mut report, &mut journal);
-    answer_lines(rt, name, answer, &report, &journal);
-}
-
-fn fresh_state(rt: &impl Print) -> [u8; 2 * RECORD_BYTES] {
-    let image = image();
-    let mut state = [255; 2 * RECORD_BYTES];
-    let answer = engine::fresh::fresh(&image, &mut state);
-    column(rt, b"fresh", 10);
-    match answer {
-        Checked::Blocks(count) => {
-            number(rt, count as u64);
-            print(rt, b" blocks\n");
+    match engine::scan::scan(&image(), state, &frame, &mut report, &mut journal) {
+        Ok(count) => {
+            line::heading(rt, name, "truck")?;
+            print_lane(rt, FIRST_TAG, &report)?;
+            print_lane(rt, SECOND_TAG, &report)?;
+            print_journal(rt, &journal, count)
         }
-        Checked::Refused(number, place) => {
-            names::refusal(rt, number, place);
-            print(rt, b"\n");
-        }
+        Err(refusal) => println!(rt; "{name:<10} {refusal}"),
     }
-    state
 }
 
-// After the first scan the frame names the next trucks, for which neither block is free yet.
-pub fn run(rt: &impl Print) {
-    found_line(rt, b"LANE0   ");
-    found_line(rt, b"LANEO   ");
-    let mut state = fresh_state(rt);
+fn fresh_state(rt: &impl Print) -> io::Result<[u8; 2 * RECORD_BYTES]> {
+    let mut state = [255; 2 * RECORD_BYTES];
+    match engine::fresh::fresh(&image(), &mut state) {
+        Ok(count) => println!(rt; "{:<10} {count} blocks", "fresh")?,
+        Err(refusal) => println!(rt; "{:<10} {refusal}", "fresh")?,
+    }
+    Ok(state)
+}
+
+/// After the first scan the frame names the next trucks, for which neither block is free yet.
+pub fn run(rt: &impl Print) -> io::Result<()> {
+    print_found(rt, FIRST_TAG)?;
+    print_found(rt, SECOND_TAG)?;
+    let mut state = fresh_state(rt)?;
     scan(
         rt,
-        b"scan 1",
+        "scan 1",
         &mut state,
         with_job(FIRST_TRUCK, working(0)),
         with_job(SECOND_TRUCK, working(0)),
-    );
+    )?;
     scan(
         rt,
-        b"scan 2",
+        "scan 2",
         &mut state,
         with_job(THIRD_TRUCK, working(0)),
         with_job(FOURTH_TRUCK, complete(0)),
-    );
+    )?;
     scan(
         rt,
-        b"scan 3",
+        "scan 3",
         &mut state,
         with_job(THIRD_TRUCK, complete(0)),
         with_job(FOURTH_TRUCK, working(0)),
-    );
+    )
 }

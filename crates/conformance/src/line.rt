@@ -1,65 +1,79 @@
 // The line of a call: its name, its report entry and its events.
-ghost use Rattle.std.specs.Prelude.{◌+◌, ◌≤◌, length};
-ghost use Rattle.layout.specs.Buffer.{report_length};
-
-use crate::read::Report;
-use crate::text::{column, number, number_column, print};
-use crate::{names, read};
+use crate::names::{EventText, FlagName, StepName};
 use layout::event::{EVENT_BYTES, decode_event};
+use layout::record::decode_flags;
+use layout::report::{REPORT_BYTES, Report};
+use std::{fmt, io};
 
-// The names of the columns; the first and the last are the caller's.
-pub fn heading(rt: &impl Print, first: &[u8]) {
-    column(rt, first, 10);
-    column(rt, b"passes", 6);
-    column(rt, b"pieces", 6);
-    column(rt, b"step", 9);
-    column(rt, b"flags", 7);
-    column(rt, b"code", 5);
+/// The names of the columns; the first and those from the job on are the caller's.
+pub fn heading(rt: &impl Print, first: &str, last: &str) -> io::Result<()> {
+    println!(rt;
+        "{first:<10} {:<6} {:<6} {:<9} {:<7} {:<5} {last}",
+        "passes", "pieces", "step", "flags", "code"
+    )
 }
 
-// The name of a call, and its report entry but for the job.
-fn report(rt: &impl Print, name: &[u8], r: Report) {
-    column(rt, name, 10);
-    number_column(rt, r.passes as u64, 6);
-    number_column(rt, r.used as u64, 6);
-    names::step(rt, r.step);
-    names::flags(rt, r.flags);
-    number_column(rt, r.code as u64, 5);
+/// A report entry but for the job, in columns.
+#[derive(Clone, Copy)]
+struct Columns(Report);
+
+impl fmt::Display for Columns {
+    fn fmt<W: fmt::Write>(&self, f: &mut fmt::Formatter<W>) -> fmt::Result {
+        let Report {
+            flags,
+            used,
+            passes,
+            step,
+            code,
+            ..
+        } = self.0;
+        let step = StepName(step);
+        let flags = FlagName(decode_flags(flags));
+        write!(f, "{passes:<6} {used:<6} {step:<9} {flags:<7} {code:<5}")
+    }
 }
 
-// The report entry from the place `at` on, whole.
-pub fn report_at(rt: &impl Print, name: &[u8], s: &[u8], at: usize)
-    requires { at + report_length ≤ length s.now }
-{
-    let r = read::report_at(s, at);
-    report(rt, name, r);
-    number(rt, r.job);
+/// The report entry of one block of several, whole.
+pub fn print_report(rt: &impl Print, name: &str, entry: &[u8; REPORT_BYTES]) -> io::Result<()> {
+    let report = Report::read(entry);
+    println!(rt; "{name:<10} {} {}", Columns(report), report.job)
 }
 
-// The first events of the journal.
-fn events(rt: &impl Print, journal: &[u8], count: usize) {
-    let n = read::readable(count, journal);
-    let mut i = 0;
-    while i < n {
-        if 0 < i {
-            print(rt, b", ");
+/// The first events of a journal, "-" for none.
+#[derive(Clone, Copy)]
+struct Events<'a> {
+    journal: &'a [u8],
+    count: usize,
+}
+
+impl fmt::Display for Events<'_> {
+    fn fmt<W: fmt::Write>(&self, f: &mut fmt::Formatter<W>) -> fmt::Result {
+        if self.count == 0 {
+            write!(f, "-")?;
         }
-        let at = EVENT_BYTES * i;
-        let posted = decode_event(&journal[at..]);
-        names::event(rt, posted.event);
-        i += 1;
+        for (i, bytes) in self
+            .journal
+            .chunks_exact(EVENT_BYTES)
+            .take(self.count)
+            .enumerate()
+        {
+            let separator = if i == 0 { "" } else { ", " };
+            let event = EventText(decode_event(bytes).event);
+            write!(f, "{separator}{event}")?;
+        }
+        Ok(())
     }
 }
 
-// The report entry of the only block, and the events of its call.
-pub fn call(rt: &impl Print, name: &[u8], s: &[u8], journal: &[u8], count: usize)
-    requires { report_length ≤ length s.now }
-{
-    let r = read::report_at(s, 0);
-    report(rt, name, r);
-    number_column(rt, r.job, 3);
-    if count == 0 {
-        print(rt, b"-");
-    }
-    events(rt, journal, count);
+/// The report entry of the only block, and the events of its call.
+pub fn print_call(
+    rt: &impl Print,
+    name: &str,
+    entry: &[u8; REPORT_BYTES],
+    journal: &[u8],
+    count: usize,
+) -> io::Result<()> {
+    let report = Report::read(entry);
+    let events = Events { journal, count };
+    println!(rt; "{name:<10} {} {:<3} {events}", Columns(report), report.job)
 }

@@ -1,67 +1,72 @@
-// Steps, flags, events and refusals in words.
-use crate::text::{column, number, print};
+// Steps, flags and events in words.
 use block::event::Event;
-use block::record::Record;
-use table::place::Place;
+use block::record::{Flags, Record};
+use std::fmt;
 
-pub fn step(rt: &impl Print, step: u8) {
-    match step {
-        Record::DORMANT => column(rt, b"Dormant", 9),
-        Record::EXECUTING => column(rt, b"Executing", 9),
-        Record::DONE => column(rt, b"Done", 9),
-        Record::ERROR => column(rt, b"Error", 9),
-        Record::ABORTING => column(rt, b"Aborting", 9),
-        Record::ABORTED => column(rt, b"Aborted", 9),
-        Record::RESETTING => column(rt, b"Resetting", 9),
-        _ => column(rt, b"?", 9),
+/// The step of a report entry, by its name.
+#[derive(Clone, Copy)]
+pub struct StepName(pub u8);
+
+impl fmt::Display for StepName {
+    fn fmt<W: fmt::Write>(&self, f: &mut fmt::Formatter<W>) -> fmt::Result {
+        f.pad(match self.0 {
+            Record::DORMANT => "Dormant",
+            Record::EXECUTING => "Executing",
+            Record::DONE => "Done",
+            Record::ERROR => "Error",
+            Record::ABORTING => "Aborting",
+            Record::ABORTED => "Aborted",
+            Record::RESETTING => "Resetting",
+            _ => "?",
+        })
     }
 }
 
-// The flags of a report entry, of which a sound record has one at most.
-pub fn flags(rt: &impl Print, flags: u8) {
-    match flags {
-        0 => column(rt, b"-", 7),
-        1 => column(rt, b"busy", 7),
-        2 => column(rt, b"done", 7),
-        4 => column(rt, b"error", 7),
-        8 => column(rt, b"aborted", 7),
-        _ => column(rt, b"?", 7),
+/// The flags of a report entry, of which a sound record has one at most.
+#[derive(Clone, Copy)]
+pub struct FlagName(pub Flags);
+
+impl fmt::Display for FlagName {
+    fn fmt<W: fmt::Write>(&self, f: &mut fmt::Formatter<W>) -> fmt::Result {
+        let Flags {
+            busy,
+            done,
+            error,
+            aborted,
+        } = self.0;
+        f.pad(match (busy, done, error, aborted) {
+            (false, false, false, false) => "-",
+            (true, false, false, false) => "busy",
+            (false, true, false, false) => "done",
+            (false, false, true, false) => "error",
+            (false, false, false, true) => "aborted",
+            _ => "?",
+        })
     }
 }
 
-fn event_kind(rt: &impl Print, kind: u8) {
+fn event_kind(kind: u8) -> &'static str {
     match kind {
-        Event::START => print(rt, b"start "),
-        Event::DONE => print(rt, b"done "),
-        Event::FAILED => print(rt, b"failed "),
-        Event::ABORTED => print(rt, b"aborted "),
-        Event::WITHDRAWN => print(rt, b"withdrawn "),
-        _ => print(rt, b"? "),
+        Event::START => "start",
+        Event::DONE => "done",
+        Event::FAILED => "failed",
+        Event::ABORTED => "aborted",
+        Event::WITHDRAWN => "withdrawn",
+        _ => "?",
     }
 }
 
-// The kind and the job, and the code of a failure.
-pub fn event(rt: &impl Print, v: Event) {
-    event_kind(rt, v.kind);
-    number(rt, v.job);
-    if v.code != 0 {
-        print(rt, b" with code ");
-        number(rt, v.code as u64);
-    }
-}
+/// An event: its kind and its job, and the code of a failure.
+#[derive(Clone, Copy)]
+pub struct EventText(pub Event);
 
-fn numbered(rt: &impl Print, text: &[u8], n: u64) {
-    print(rt, text);
-    number(rt, n);
-}
-
-// The number of a refusal, and its place where one is named.
-pub fn refusal(rt: &impl Print, n: u8, place: Place) {
-    numbered(rt, b"refused ", n as u64);
-    match place {
-        Place::Header => {}
-        Place::Slot(slot) => numbered(rt, b" at slot ", slot as u64),
-        Place::Position(position) => numbered(rt, b" at position ", position as u64),
-        Place::Event(event) => numbered(rt, b" at event ", event as u64),
+impl fmt::Display for EventText {
+    fn fmt<W: fmt::Write>(&self, f: &mut fmt::Formatter<W>) -> fmt::Result {
+        let Event { kind, code, job } = self.0;
+        let kind = event_kind(kind);
+        if code == 0 {
+            return write!(f, "{kind} {job}");
+        }
+        write!(f, "{kind} {job} with code {code}")
     }
 }

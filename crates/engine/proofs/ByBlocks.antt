@@ -5,13 +5,13 @@ use mathlib.Core.List.{List}
 use lib.ListN.{length}
 use Rattle.table.specs.Check.{check_of}
 use Rattle.table.specs.Blocks.{Block, blocks_of}
-use Rattle.table.specs.declared.check.Checked.TheVariants.{Blocks}
+use Rattle.std.specs.Prelude.{Ok}
 use Rattle.table.proofs.AcceptedLaws.{accepted_blocks}
 use Rattle.engine.specs.Told.{Told}
 use Rattle.engine.specs.Fresh.{fresh_of}
 use Rattle.engine.specs.Scan.{scan_of}
 
-module _ (first second : List ℕ) (m n : ℕ) (one : check_of first ≡ Blocks m) (two : check_of second ≡ Blocks n) (same : blocks_of first ≡ blocks_of second) where
+module _ (first second : List ℕ) (m n : ℕ) (one : check_of first ≡ Ok m) (two : check_of second ≡ Ok n) (same : blocks_of first ≡ blocks_of second) where
   pub fresh_by_blocks : (state : List ℕ) → fresh_of first state ≡ fresh_of second state
   unfolding fresh_of
   fresh_by_blocks state =

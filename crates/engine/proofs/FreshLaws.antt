@@ -11,10 +11,8 @@ use borrow.Author.Tests.{eqb-true}
 use Rattle.words.specs.Word.{number}
 use Rattle.table.specs.Blocks.{blocks_of}
 use Rattle.table.specs.Check.{check_of}
-use Rattle.table.specs.declared.place.Place.{Place}
-use Rattle.table.specs.declared.place.Place.TheVariants.{Header}
-use Rattle.table.specs.declared.check.Checked.{Checked}
-use Rattle.table.specs.declared.check.Checked.TheVariants.{Blocks, Refused}
+use Rattle.std.specs.Prelude.{Result, Ok, Err}
+use Rattle.refusal.specs.declared.Refusal.{Refusal}
 use Rattle.layout.specs.Buffer.{record_length, part}
 use Rattle.layout.specs.RecordLayout.{decode_record, record_form}
 use Rattle.layout.proofs.BufferLaws.{part_zeros}
@@ -24,30 +22,24 @@ use Rattle.engine.specs.Fresh.{fresh_of}
 use Rattle.engine.specs.Serve.{record_in}
 
 pub record FreshMade (image buffer : List ℕ) (n : ℕ) : Type 0 where
-  pub table : check_of image ≡ Blocks n
+  pub table : check_of image ≡ Ok n
   pub sized : length buffer ≡ record_length * length (blocks_of image)
   pub zeros : (fresh_of image buffer).state ≡ replicate (length buffer) 0
 
-refused_not : {A : Type 0} (a : Checked) (n number : ℕ) (place : Place) → a ≡ Refused number place → a ≡ Blocks n → A
-refused_not a n number place e f = let z : ◌≡◌ {A = ℕ} 0 1 = cc in absurd (omega arith)
-
-blocks_same : (a : Checked) (m n : ℕ) → a ≡ Blocks m → a ≡ Blocks n → m ≡ n
-blocks_same a m n e f = cc
-
-pub fresh_made : (image buffer : List ℕ) (n : ℕ) → (fresh_of image buffer).answer ≡ Blocks n → FreshMade image buffer n
+pub fresh_made : (image buffer : List ℕ) (n : ℕ) → (fresh_of image buffer).answer ≡ Ok n → FreshMade image buffer n
 unfolding fresh_of
 fresh_made image buffer n = after (check_of image) refl (eqb (length buffer) (record_length * length (blocks_of image))) refl
   where
-    after : (c : Checked) → check_of image ≡ c → (b : Bool) → eqb (length buffer) (record_length * length (blocks_of image)) ≡ b
-        → (fresh_of image buffer).answer ≡ Blocks n → FreshMade image buffer n
-    after (Blocks m) e true s a =
+    after : (c : Result ℕ Refusal) → check_of image ≡ c → (b : Bool) → eqb (length buffer) (record_length * length (blocks_of image)) ≡ b
+        → (fresh_of image buffer).answer ≡ Ok n → FreshMade image buffer n
+    after (Ok m) e true s a =
         record {
-          table = e ∙ ap Blocks (blocks_same (Blocks m) m n refl (rw (e, s) at a));
+          table = e ∙ rw (e, s) at a;
           sized = eqb-true (length buffer) (record_length * length (blocks_of image)) s;
           zeros = rw (e, s);
         }
-    after (Blocks m) e false s a = refused_not (Refused 20 Header) n 20 Header refl (rw (e, s) at a)
-    after (Refused number place) e b s a = refused_not (Refused number place) n number place refl (rw e at a)
+    after (Ok m) e false s a = let z = rw (e, s) at a in cc
+    after (Err refusal) e b s a = let z = rw e at a in cc
 
 -- every record of zeros is fresh, past the last one too
 zeros_part : (n j : ℕ) → j < n → part record_length j (replicate (record_length * n) 0) ≡ replicate record_length 0

@@ -1,5 +1,3 @@
-pub mod VerifyLaws
-pub mod ClearLaws
 pub mod GridLaws
 pub mod ServedLaws
 pub mod ServeLaws
@@ -7,7 +5,6 @@ pub mod IdleLaws
 pub mod WorkingLaws
 pub mod ServingLaws
 pub mod ByBlocks
-pub mod AnswerLaws
 pub mod RefusalLaws
 pub mod ScanAccepted
 pub mod FreshLaws

@@ -7,9 +7,9 @@ use Rattle.table.specs.Blocks.{blocks_in, block_in}
 use Rattle.table.specs.Header.{header_check}
 use Rattle.table.specs.Walk.{unmet, walk_in, walked}
 use Rattle.table.specs.Chain.{position_from}
-use Rattle.table.specs.Record.{tag_among, record_check, records_from, records_check}
+use Rattle.table.specs.Record.{tag_among, record_check, records_check}
 use Rattle.table.specs.Tag.{tag_char, spaces, padded, tag_text, tag_form, same_bytes}
-use Rattle.table.specs.Spare.{spares_from, spares_check}
+use Rattle.table.specs.Spare.{spares_check}
 use Rattle.table.specs.Check.{verdict_of, check_of}
 use Rattle.table.specs.Refusals.{answers_due, answers_made, image}
 use Rattle.block.specs.Sound.{zeroed, flags_fit, code_sound, request_sound, step_sound, times_sound, sound}
@@ -36,8 +36,8 @@ use Rattle.engine.specs.ScanExample.{state, first, second, damaged, ScanExample}
 computed : EngineRefusals × ScanExample
 unfolding answers_due answers_made image input fresh_rows state_rows frame_rows buffer_rows state first second damaged
     fresh_of scan_of scan_blocks verify_of state_sound frame_form served_to served call_in inputs_of
-    check_of verdict_of header_check walked walk_in unmet records_check records_from record_check tag_among tag_form tag_text tag_char padded
-    spaces same_bytes spares_check spares_from all_zero blocks_in block_in position_from
+    check_of verdict_of header_check walked walk_in unmet records_check record_check tag_among tag_form tag_text tag_char padded
+    spaces same_bytes spares_check all_zero blocks_in block_in position_from
     sound_bytes record_form entry_bytes entry_form decode_entry decode_record encode_record encode_report encode_events encode_event number bytes
     sound zeroed flags_fit code_sound request_sound step_sound times_sound entry_fits pieces_fit
     call_of call_within rule dormant executing judge use_pieces ended aborting resetting tick since past past_limit past_time_out

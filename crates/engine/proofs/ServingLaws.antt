@@ -11,19 +11,20 @@ use borrow.Author.Tests.{leb-true}
 use Rattle.membership.proofs.Logic.{and_left}
 use Rattle.table.specs.Check.{check_of}
 use Rattle.table.specs.Blocks.{Block, blocks_of, config_at}
-use Rattle.table.specs.declared.check.Checked.TheVariants.{Blocks}
+use Rattle.std.specs.Prelude.{Ok, Option, None, Some}
+use Rattle.table.specs.Table.{WireFits}
+use Rattle.table.specs.declared.blocks.Wire.{Wire}
 use Rattle.table.proofs.AcceptedLaws.{accepted_blocks, accepted_few, accepted_start, accepted_abort}
 use Rattle.layout.specs.Buffer.{record_length, entry_length, event_length, part}
 use Rattle.layout.specs.EventLayout.{encode_events}
 use Rattle.layout.proofs.BufferLaws.{put_length}
 use Rattle.layout.proofs.EntryLaws.{entry_fits_lem}
 use Rattle.layout.proofs.EventLaws.{events_length}
-use Rattle.block.specs.Entry.{Complete, ErrorReply, most_pieces, code_fits, head_fits, pieces_fit, entry_fits}
+use Rattle.block.specs.Entry.{Entry, Complete, ErrorReply, most_pieces, code_fits, head_fits, pieces_fit, entry_fits}
 use Rattle.block.specs.Call.{Outcome}
-use Rattle.block.specs.declared.entry.Entry.{Entry}
 use Rattle.engine.specs.Told.{Told}
 use Rattle.engine.specs.Serve.{Buffers, entry_in, served, served_to}
-use Rattle.engine.specs.Callable.{Callable, Reached, HasRoom}
+use Rattle.engine.specs.Callable.{Callable, Reaches, Reached, HasRoom}
 use Rattle.engine.specs.ScanAccepted.{StateFits, GivenFits}
 use Rattle.engine.proofs.ServedLaws.{buffers_at, outcome_at, state_length, state_later, report_sized, events_few}
 
@@ -37,6 +38,11 @@ count_few e h =
     let reset = leb e.reset_reply Complete in
     let code = code_fits e.abort_reply e.abort_code in
     leb-true e.count most_pieces (and_left counted replies (and_left (counted && replies) reset (and_left (counted && replies && reset) code head)))
+
+-- a wire of a table reaches a record of a state that has one for each block
+reaches : (wire : Option Wire) (n : ℕ) (state : List ℕ) → WireFits n wire → record_length * n ≤ length state → Reaches wire state
+reaches None n state fits l = tt
+reaches (Some w) n state fits l = (fits.0, omega (arith, fits.1))
 
 -- the buffers after n blocks, of what passed checks 20 to 41
 module _ (blocks : List Block) (told : Told) (state report journal : List ℕ) (s : StateFits blocks state) (g : GivenFits blocks told report journal) where
@@ -93,7 +99,7 @@ module _ (blocks : List Block) (told : Told) (state₀ report₀ journal₀ : Li
       rw add-one (record { within = l; whole = e ∙ ap (served (config_at blocks i) i told.frame) h.whole })
 
   -- the next block of an accepted table can be called
-  pub serving_callable : (image : List ℕ) (n : ℕ) → check_of image ≡ Blocks n → blocks ≡ blocks_of image
+  pub serving_callable : (image : List ℕ) (n : ℕ) → check_of image ≡ Ok n → blocks ≡ blocks_of image
       → StateFits blocks state₀ → GivenFits blocks told report₀ journal₀ → i < n
       → (Callable (config_at blocks i).kind i told.frame state × Reached (config_at blocks i) state) × HasRoom i events report journal
   serving_callable image n ok from s g l =
@@ -108,8 +114,8 @@ module _ (blocks : List Block) (told : Told) (state₀ report₀ journal₀ : Li
             pieces = count_few (entry_in told.frame i) (entry_fits_lem (part entry_length i told.frame) (g.form i (omega arith)));
           },
           record {
-            start = rw from (omega (arith, z.0, s.sized, (accepted_start image n ok i l).within));
-            abort = rw from (omega (arith, z.0, s.sized, (accepted_abort image n ok i l).within));
+            start = rw from (reaches _ n state (accepted_start image n ok i l) (omega (arith, z.0, s.sized)));
+            abort = rw from (reaches _ n state (accepted_abort image n ok i l) (omega (arith, z.0, s.sized)));
           },
         ),
         record { reported = omega (arith, z.1, g.report_sized); posted = omega (arith, z.2, z.3, g.room) },

@@ -6,7 +6,7 @@ use mathlib.Core.List.{List, []}
 use mathlib.Core.Path.{◌≡◌, ap, sym, ◌∙◌}
 use lib.ListN.{length}
 use Rattle.words.specs.Word.{Bytes}
-use Rattle.table.specs.declared.blocks.BlockConfig.{BlockConfig}
+use Rattle.table.specs.Blocks.{BlockConfig}
 use Rattle.layout.specs.Buffer.{record_length, report_length, event_length, part, put}
 use Rattle.layout.specs.RecordLayout.{record_offset, encode_record, encode_timer}
 use Rattle.layout.specs.ReportLayout.{encode_report, working_report}

@@ -1,6 +1,6 @@
 -- Document 02, 4/14: "what serves such a block shall get the state buffer only to read, so that its record stays in place. All outputs are as before."
 use Rattle.std.specs.Prelude.{ℕ, ◌*◌, Bool, true, List, ◌++◌, ◌≡◌, take, drop}
-use Rattle.table.specs.declared.blocks.BlockConfig.{BlockConfig}
+use Rattle.table.specs.Blocks.{BlockConfig}
 use Rattle.layout.specs.Buffer.{report_length}
 use Rattle.layout.specs.ReportLayout.{encode_report}
 use Rattle.block.specs.Record.{fresh_record}

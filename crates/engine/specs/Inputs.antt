@@ -1,7 +1,9 @@
 -- Document 01, "Table image": the inputs of a call, from the wires and the frame.
-use Rattle.std.specs.Prelude.{ℕ, ◌-◌, Bool, not, cond, List, eqb}
+use Rattle.std.specs.Prelude.{ℕ, ◌-◌, Bool, not, cond, List, Option, None, Some}
+use Rattle.table.specs.declared.blocks.Flag.{Flag}
+use Rattle.table.specs.declared.blocks.Flag.TheVariants.{Busy, Done, Error, Aborted}
 use Rattle.table.specs.declared.blocks.Wire.{Wire}
-use Rattle.table.specs.declared.blocks.BlockConfig.{BlockConfig}
+use Rattle.table.specs.Blocks.{BlockConfig}
 use Rattle.layout.specs.Buffer.{record_length, part}
 use Rattle.layout.specs.RecordLayout.{decode_record}
 use Rattle.block.specs.declared.record.Flags.{Flags}
@@ -12,17 +14,19 @@ abbrev pub flags_in : List ℕ → ℕ → Flags
 flags_in state i = (decode_record (part record_length i state)).flags
 
 -- "flag (0 busy, 1 done, 2 error, 3 aborted)"
-abbrev pub flag_of : ℕ → Flags → Bool
-flag_of n f = cond (eqb n 0) f.busy (cond (eqb n 1) f.done (cond (eqb n 2) f.error f.aborted))
+abbrev pub flag_of : Flag → Flags → Bool
+flag_of Busy f = f.busy
+flag_of Done f = f.done
+flag_of Error f = f.error
+flag_of Aborted f = f.aborted
 
 -- "Wire slot 0 takes the input bit from the frame"; otherwise the flag, perhaps inverted. `flags` gives the flags of a block by its index.
-abbrev pub input_of : Wire → (ℕ → Flags) → Bool → Bool
-input_of w flags bit =
-    cond (eqb w.position 0) bit
-    (cond w.inverted (not (flag_of w.flag (flags (w.position - 1)))) (flag_of w.flag (flags (w.position - 1))))
+abbrev pub input_of : Option Wire → (ℕ → Flags) → Bool → Bool
+input_of None flags bit = bit
+input_of (Some w) flags bit = cond w.inverted (not (flag_of w.flag (flags (w.position - 1)))) (flag_of w.flag (flags (w.position - 1)))
 
 -- both inputs from two wires; the frame's own bits where no wire is
-abbrev pub wired : Wire → Wire → (ℕ → Flags) → Inputs → Inputs
+abbrev pub wired : Option Wire → Option Wire → (ℕ → Flags) → Inputs → Inputs
 wired start abort flags bits = record { start = input_of start flags bits.start; abort = input_of abort flags bits.abort }
 
 -- the inputs of a block

@@ -2,6 +2,7 @@ pub mod Told
 pub mod Verify
 pub mod Inputs
 pub mod Serve
+pub mod Lent
 pub mod Callable
 pub mod Idle
 pub mod Fresh

@@ -1,15 +1,14 @@
 -- Every refusal of fresh and of the scan below the table's, computed from bytes: a row for each way to be turned back, with its number and place, beside
 -- the nearest bytes that pass. The table's own rows, and what a row is, stand in crate table under the same name. Proved in proofs/Refusals.antt.
 use Rattle.std.specs.Prelude.{ℕ, ◌+◌, ◌-◌, ◌*◌, List, [], ◌∷◌, ◌++◌, map, set, take, replicate}
-use Rattle.table.specs.Place.{Answer, value, refusal}
-use Rattle.table.specs.Check.{checked_answer}
+use Rattle.refusal.specs.Refusal.{Answer, value, refusal, answer_of}
 use Rattle.table.specs.Refusals.{Row, ◌gives◌, AnswersAll, image}
 use Rattle.block.specs.Record.{Executing, Done, Error, Aborting, Aborted, Resetting, TimedOut}
 use Rattle.layout.specs.Buffer.{record_length, entry_length, report_length, event_length, job_width, put}
 use Rattle.layout.specs.RecordLayout.{record_offset}
 use Rattle.layout.specs.EntryLayout.{entry_offset, piece_offset, piece_field}
 use Rattle.engine.specs.Fresh.{fresh_of}
-use Rattle.engine.specs.Scan.{scan_of, scan_answer}
+use Rattle.engine.specs.Scan.{scan_of}
 
 -- what a scan is given
 pub record ScanInput : Type 0 where
@@ -305,10 +304,10 @@ buffer_rows =
 
 -- what fresh and the scan answer, in document 01's numbers
 abbrev pub fresh_answer : List ℕ → Answer
-fresh_answer buffer = checked_answer (fresh_of image buffer).answer
+fresh_answer buffer = answer_of (fresh_of image buffer).answer
 
 abbrev pub scan_answer_of : ScanInput → Answer
-scan_answer_of g = scan_answer (scan_of g.image g.state (record { frame = g.frame }) g.report g.journal).answer
+scan_answer_of g = answer_of (scan_of g.image g.state (record { frame = g.frame }) g.report g.journal).answer
 
 -- theorem engine_refusals
 pub record EngineRefusals : Type 0 where

@@ -1,14 +1,14 @@
 -- One accepted scan and two refused calls, with every byte that they leave: for the reader, and so that a wrong definition of the scan breaks a fact about
 -- bytes in this crate. Proved in proofs/Refusals.antt.
-use Rattle.std.specs.Prelude.{ℕ, ◌-◌, ◌*◌, List, [], ◌∷◌, ◌++◌, ◌≡◌, replicate}
+use Rattle.std.specs.Prelude.{ℕ, ◌-◌, ◌*◌, List, [], ◌∷◌, ◌++◌, Ok, ◌≡◌, replicate}
 use Rattle.table.specs.Refusals.{image}
-use Rattle.table.specs.declared.place.Place.TheVariants.{Header, Position}
-use Rattle.table.specs.declared.check.Checked.TheVariants.{Refused as FreshRefused}
+use Rattle.refusal.specs.Refusal.{refused as turned_back}
+use Rattle.refusal.specs.declared.Place.TheVariants.{Header, Position}
+use Rattle.refusal.specs.declared.Check.TheVariants.{StateLength, EntryForm}
 use Rattle.layout.specs.Buffer.{record_length, report_length, event_length}
 use Rattle.engine.specs.Told.{Told}
 use Rattle.engine.specs.Fresh.{fresh_of}
 use Rattle.engine.specs.Scan.{scan_of}
-use Rattle.engine.specs.declared.scan.Scanned.TheVariants.{Events, Refused}
 
 -- The first block is Executing with job 1,099,511,627,783, a time-out of 100 and elapsed 3 at reading 10; the second is Executing with job 7. The two jobs
 -- agree in their low four bytes.
@@ -82,7 +82,7 @@ pub record ScanExample : Type 0 where
   -- The first is Done, in 2 passes with 1 piece, with the reset requested; so the second's start is false, and it is withdrawn and reset in 3 passes.
   pub accepted : scan_of image state (told second) report journal
       ≡ record {
-        answer = Events 2;
+        answer = Ok 2;
         state =
             2 ∷ 2 ∷ 1 ∷ 0 ∷ 0 ∷ 0 ∷ 0 ∷ 0
             ∷ 0 ∷ 0 ∷ 0 ∷ 0 ∷ 0 ∷ 0 ∷ 0 ∷ 0
@@ -103,5 +103,5 @@ pub record ScanExample : Type 0 where
       }
   -- a refusal leaves every lent buffer untouched
   pub refused : scan_of image state (told damaged) report journal
-      ≡ record { answer = Refused 31 (Position 2); state = state; report = report; journal = journal }
-  pub fresh_refused : fresh_of image short ≡ record { answer = FreshRefused 20 Header; state = short }
+      ≡ record { answer = turned_back EntryForm (Position 2); state = state; report = report; journal = journal }
+  pub fresh_refused : fresh_of image short ≡ record { answer = turned_back StateLength Header; state = short }

@@ -1,15 +1,14 @@
 -- Document 01, "An accepted scan calls each block once, in chain order": one block's step over the lent buffers.
 use Rattle.std.specs.Prelude.{ℕ, zero, suc, ◌+◌, ◌*◌, List, length}
-use Rattle.table.specs.Blocks.{Block, config_at}
+use Rattle.table.specs.Blocks.{Block, BlockConfig, config_at}
 use Rattle.layout.specs.Buffer.{record_length, entry_length, report_length, event_length, part, put}
 use Rattle.layout.specs.RecordLayout.{encode_record, decode_record}
 use Rattle.layout.specs.EntryLayout.{decode_entry}
 use Rattle.layout.specs.ReportLayout.{encode_report}
 use Rattle.layout.specs.EventLayout.{encode_events}
-use Rattle.table.specs.declared.blocks.BlockConfig.{BlockConfig}
 use Rattle.block.specs.Call.{Outcome, call_of}
 use Rattle.block.specs.declared.record.Record.{Record}
-use Rattle.block.specs.declared.entry.Entry.{Entry}
+use Rattle.block.specs.Entry.{Entry}
 use Rattle.engine.specs.Told.{Told}
 use Rattle.engine.specs.Inputs.{flags_in, inputs_of}
 

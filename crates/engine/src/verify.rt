@@ -1,125 +1,96 @@
 // Checks 20 to 41, which only read.
-ghost use Rattle.std.specs.Prelude.{List, ◌≡◌, ◌*◌, ◌≤◌, length};
+ghost use Rattle.std.specs.Prelude.{◌≡◌, ◌*◌, ◌≤◌, OnOk, length};
 ghost use Rattle.image.specs.Image.{most_slots};
-ghost use Rattle.table.specs.Check.{Accepted};
-ghost use Rattle.table.specs.Blocks.{Block, blocks_of};
+ghost use Rattle.table.specs.Blocks.{blocks_of};
 ghost use Rattle.layout.specs.Buffer.{record_length, entry_length};
 ghost use Rattle.engine.specs.Verify.{state_sound, state_check, frame_form, frame_check, lent_check, verify_of};
+ghost use Rattle.engine.specs.ScanAccepted.{StateFits, GivenFits};
 
-use image::MOST_SLOTS;
+use crate::told::Told;
+use layout::buffer::part_at;
 use layout::entry::ENTRY_BYTES;
 use layout::event::EVENT_BYTES;
 use layout::record::RECORD_BYTES;
 use layout::report::REPORT_BYTES;
-use table::place::{Place, Verdict};
+use refusal::{Check, Checked, Refusal};
+use table::table::Table;
 
-// Check 21: the first position whose record is not sound.
-fn check_sound(
-    image: &[u8],
-    slots: &[u8; MOST_SLOTS],
-    positions: &[u8; MOST_SLOTS + 1],
-    count: usize,
-    state: &[u8],
-) -> Verdict
-    requires accepted { Accepted image.now count slots.now positions.now }
-    requires state_len { length state.now ≡ record_length * count }
-    ensures { result ≡ state_sound 0 (blocks_of image.now) state.now }
+/// Check 21: the first position whose record is not sound.
+#[tactic(auto, using(refusal::proofs::Rows::refused_at), unfolding(crate::specs::Verify::state_sound))]
+fn check_sound(table: &Table, state: &[u8]) -> Checked<()>
+    requires { length state.now ≡ record_length * length (blocks_of table.now) }
+    ensures { result ≡ state_sound (blocks_of table.now) state.now }
 {
-    let mut i = 0;
-    while i < count {
-        let kind = table::blocks::kind_at(image, slots, positions, count, i);
-        let at = RECORD_BYTES * i;
-        let end = at + RECORD_BYTES;
-        if !layout::record::sound_bytes(kind, &state[at..end]) {
-            return Verdict::Failed(21, Place::Position((i + 1) as u8));
+    for i in 0..table.len() {
+        let kind = table.kind(i);
+        if !layout::record::sound_bytes(kind, part_at(state, i)) {
+            return Err(Refusal::at_position(Check::Unsound, i as u8 + 1));
         }
-        i += 1;
     }
-    Verdict::Passed
+    Ok(())
 }
 
-// Checks 20 and 21: a state of an accepted table.
-pub fn check_state(
-    image: &[u8],
-    slots: &[u8; MOST_SLOTS],
-    positions: &[u8; MOST_SLOTS + 1],
-    count: usize,
-    state: &[u8],
-) -> Verdict
-    requires { Accepted image.now count slots.now positions.now }
-    ensures { result ≡ state_check (blocks_of image.now) state.now }
+/// Checks 20 and 21: a state of an accepted table.
+pub fn check_state(table: &Table, state: &[u8]) -> Checked<()>
+    ensures { result ≡ state_check (blocks_of table.now) state.now }
 {
-    if state.len() != RECORD_BYTES * count {
-        return Verdict::Failed(20, Place::Header);
+    if state.len() != RECORD_BYTES * table.len() {
+        return Err(Refusal::header(Check::StateLength));
     }
-    check_sound(image, slots, positions, count, state)
+    check_sound(table, state)
 }
 
-// Check 31: the first position whose entry is not in form, whatever the blocks are.
-fn check_entries(frame: &[u8], count: usize) -> Verdict
-    requires count_le_most_slots { count ≤ most_slots }
-    requires frame_len { length frame.now ≡ entry_length * count }
-    ensures { (blocks : List Block) → length blocks ≡ count → result ≡ frame_form 0 blocks frame.now }
+/// Check 31: the first position whose entry is not in form.
+#[tactic(auto, using(refusal::proofs::Rows::refused_at), unfolding(crate::specs::Verify::frame_form))]
+fn check_entries(table: &Table, frame: &[u8]) -> Checked<()>
+    requires { length frame.now ≡ entry_length * length (blocks_of table.now) }
+    ensures { result ≡ frame_form (blocks_of table.now) frame.now }
 {
-    let mut i = 0;
-    while i < count {
-        let at = ENTRY_BYTES * i;
-        let end = at + ENTRY_BYTES;
-        if !layout::entry::entry_bytes(&frame[at..end]) {
-            return Verdict::Failed(31, Place::Position((i + 1) as u8));
+    for i in 0..table.len() {
+        if !layout::entry::entry_bytes(part_at(frame, i)) {
+            return Err(Refusal::at_position(Check::EntryForm, i as u8 + 1));
         }
-        i += 1;
     }
-    Verdict::Passed
+    Ok(())
 }
 
-// Checks 30 and 31: a frame for so many blocks.
-fn check_frame(frame: &[u8], count: usize) -> Verdict
-    requires { count ≤ most_slots }
-    ensures { (blocks : List Block) → length blocks ≡ count → result ≡ frame_check blocks frame.now }
+/// Checks 30 and 31: a frame for the table's blocks.
+fn check_frame(table: &Table, frame: &[u8]) -> Checked<()>
+    ensures { result ≡ frame_check (blocks_of table.now) frame.now }
 {
-    if frame.len() != ENTRY_BYTES * count {
-        return Verdict::Failed(30, Place::Header);
+    if frame.len() != ENTRY_BYTES * table.len() {
+        return Err(Refusal::header(Check::FrameLength));
     }
-    check_entries(frame, count)
+    check_entries(table, frame)
 }
 
-// Checks 40 and 41: a report and a journal for so many blocks.
-fn check_lent(report: &[u8], journal: &[u8], count: usize) -> Verdict
-    requires { count ≤ most_slots }
-    ensures { (blocks : List Block) → length blocks ≡ count → result ≡ lent_check blocks report.now journal.now }
+/// Checks 40 and 41: a report and a journal for the table's blocks.
+fn check_lent(table: &Table, report: &[u8], journal: &[u8]) -> Checked<()>
+    ensures { result ≡ lent_check (blocks_of table.now) report.now journal.now }
 {
-    if report.len() != REPORT_BYTES * count {
-        return Verdict::Failed(40, Place::Header);
+    if report.len() != REPORT_BYTES * table.len() {
+        return Err(Refusal::header(Check::ReportLength));
     }
-    if journal.len() < 2 * EVENT_BYTES * count {
-        return Verdict::Failed(41, Place::Header);
+    if journal.len() < 2 * EVENT_BYTES * table.len() {
+        return Err(Refusal::header(Check::JournalLength));
     }
-    Verdict::Passed
+    Ok(())
 }
 
-// Every check of the scan below the table's, from the top down.
+/// Every check of the scan below the table's, from the top down.
+#[tactic(auto, unfolding(crate::specs::Verify::verify_of))]
 pub fn verify(
-    image: &[u8],
-    slots: &[u8; MOST_SLOTS],
-    positions: &[u8; MOST_SLOTS + 1],
-    count: usize,
+    table: &Table,
+    told: &Told,
     state: &[u8],
-    frame: &[u8],
     report: &[u8],
     journal: &[u8],
-) -> Verdict
-    requires { Accepted image.now count slots.now positions.now }
-    ensures { result
-        ≡ verify_of (blocks_of image.now) state.now (record { frame = frame.now }) report.now journal.now }
+) -> Checked<()>
+    ensures answer { result ≡ verify_of (blocks_of table.now) state.now told.now report.now journal.now }
+    ensures state_fits { OnOk result (StateFits (blocks_of table.now) state.now) }
+    ensures given_fits { OnOk result (GivenFits (blocks_of table.now) told.now report.now journal.now) }
 {
-    let of_state = check_state(image, slots, positions, count, state);
-    let Verdict::Passed = of_state else {
-        return of_state;
-    };
-    let of_frame = check_frame(frame, count);
-    let Verdict::Passed = of_frame else {
-        return of_frame;
-    };
-    check_lent(report, journal, count)
+    check_state(table, state)?;
+    check_frame(table, told.frame())?;
+    check_lent(table, report, journal)
 }

@@ -1,9 +1,8 @@
 -- Figures that are not too large: so that nothing overflows where lines are added up. For the writer of the lines.
 use Prim.Native.Nat.{ℕ, ◌≤◌}
 use native.Mathlib.Omega.{arith}
-use mathlib.Core.List.{List}
 use Rattle.figures.specs.Figures.{figures_by, AtMost}
-use Rattle.figures.specs.Tally.{figures_in, RowFits}
+use Rattle.figures.specs.Tally.{Counts, figures_in, RowFits}
 use Rattle.figures.specs.declared.figures.Figures.{Figures}
 
 pub at_most_up : (m n : ℕ) (f : Figures) → m ≤ n → AtMost m f → AtMost n f
@@ -18,7 +17,7 @@ at_most_up m n f l h =
     }
 
 -- the figures of a row whose finishes are no more than its starts
-pub row_most : (counts : List ℕ) (position : ℕ) → RowFits counts position → AtMost 65536 (figures_in counts position)
+pub row_most : (counts : Counts) (position : ℕ) → RowFits counts position → AtMost 65536 (figures_in counts position)
 unfolding figures_by
 row_most counts position h =
     record {

@@ -1,13 +1,15 @@
 // The six figures of a line.
-ghost use Rattle.std.specs.Prelude.{◌≡◌, ◌≤◌, length};
+ghost use Rattle.std.specs.Prelude.{◌≡◌, ◌≤◌};
 ghost use Rattle.image.specs.Image.{most_slots};
-ghost use Rattle.figures.specs.Tally.{tally_length, figures_in, RowFits};
-ghost use Rattle.figures.specs.Figures.{no_figures, plus, AtMost};
+ghost use Rattle.figures.specs.Tally.{counts_of, figures_in, RowFits};
+ghost use Rattle.figures.specs.Figures.{plus, AtMost};
 
-use crate::tally::{TALLY_LENGTH, count_in};
+use crate::tally::Tally;
 use block::event::Event;
+use std::ops::Add;
 
-#[derive(Clone, Copy)]
+/// Counts of a block's events, or sums of such counts.
+#[derive(Clone, Copy, Debug, Default, PartialEq, Eq)]
 pub struct Figures {
     pub starts: u32,
     pub done: u32,
@@ -17,25 +19,15 @@ pub struct Figures {
     pub left_open: u32,
 }
 
-impl Figures {
-    pub fn none() -> Figures
-        ensures { result ≡ no_figures }
-    {
-        Figures {
-            starts: 0,
-            done: 0,
-            failed: 0,
-            aborted: 0,
-            withdrawn: 0,
-            left_open: 0,
-        }
-    }
+/// Column by column, where each sum has at most four bytes.
+impl Add for Figures {
+    type Output = Figures;
 
-    // Column by column, where each sum has at most four bytes.
-    pub fn plus(self, g: Figures) -> Figures
-        requires { AtMost 2147483647 self × AtMost 2147483647 g }
-        ensures { result ≡ plus self g }
-    {
+    ghost can_add = { λ f g. AtMost 2147483647 f × AtMost 2147483647 g };
+
+    ghost add_gives = { λ f g sum. sum ≡ plus f g };
+
+    fn add(self, g: Figures) -> Figures {
         Figures {
             starts: self.starts + g.starts,
             done: self.done + g.done,
@@ -47,19 +39,18 @@ impl Figures {
     }
 }
 
-// The figures of the block at a position.
+/// The figures of the block at a position.
 #[tactic(auto, unfolding(crate::specs::Figures::figures_by))]
-pub fn figures_at(counts: &[u32; TALLY_LENGTH], position: u8) -> Figures
-    requires counts_len { length counts.now ≡ tally_length }
+pub fn figures_at(tally: &Tally, position: u8) -> Figures
     requires position_le_most_slots { position ≤ most_slots }
-    requires row_fits { RowFits counts.now position }
-    ensures { result ≡ figures_in counts.now position }
+    requires row_fits { RowFits (counts_of tally.now) position }
+    ensures { result ≡ figures_in (counts_of tally.now) position }
 {
-    let starts = count_in(counts, position, Event::START);
-    let done = count_in(counts, position, Event::DONE);
-    let failed = count_in(counts, position, Event::FAILED);
-    let aborted = count_in(counts, position, Event::ABORTED);
-    let withdrawn = count_in(counts, position, Event::WITHDRAWN);
+    let starts = tally.count(position, Event::START);
+    let done = tally.count(position, Event::DONE);
+    let failed = tally.count(position, Event::FAILED);
+    let aborted = tally.count(position, Event::ABORTED);
+    let withdrawn = tally.count(position, Event::WITHDRAWN);
     let left_open = starts - (done + failed + aborted + withdrawn);
     Figures {
         starts,

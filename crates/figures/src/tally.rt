@@ -1,34 +1,22 @@
 // How many events each position has of each kind, in one pass over a journal.
-ghost use Rattle.std.specs.Prelude.{◌≡◌, ◌*◌, ◌<◌, ◌≤◌, length};
+ghost use Rattle.std.specs.Prelude.{ℕ, ◌≡◌, ◌/◌, ◌<◌, ◌≤◌, length};
 ghost use Rattle.image.specs.Image.{most_slots};
 ghost use Rattle.block.specs.Event.{Withdrawn};
 ghost use Rattle.layout.specs.Buffer.{event_length};
 ghost use Rattle.layout.specs.EventLayout.{decode_events};
-ghost use Rattle.figures.specs.Tally.{tally_index, tally_length, has_count, count_in, counted, CountFits, Tallied};
+ghost use Rattle.figures.specs.Tally.{counts_of, has_count, counted, CountFits, Tallied};
 
 use block::event::Event;
 use image::MOST_SLOTS;
 use layout::event::{EVENT_BYTES, decode_event};
 
-// A row for each position, from 0 to the last; a count for each kind of event, from 0 to withdrawn.
-const ROW_LENGTH: usize = 6;
+/// A count for each kind of event, from 0 to withdrawn.
+pub const ROW_LENGTH: usize = 6;
 
-pub const TALLY_LENGTH: usize = ROW_LENGTH * (MOST_SLOTS + 1);
-
-// Where a count stands.
-fn tally_index(position: u8, kind: u8) -> usize
-    ensures { result ≡ tally_index position kind }
-{
-    ROW_LENGTH * (position as usize) + kind as usize
-}
-
-// How many events of a kind a position has.
-pub fn count_in(counts: &[u32; TALLY_LENGTH], position: u8, kind: u8) -> u32
-    requires counts_len { length counts.now ≡ tally_length }
-    requires position_le_most_slots { (position ≤ most_slots) × (kind ≤ Withdrawn) }
-    ensures { result ≡ count_in counts.now position kind }
-{
-    counts[tally_index(position, kind)]
+/// The counts of a journal: a row for each position, from 0 to the last.
+#[derive(Clone, Copy, Debug, PartialEq, Eq)]
+pub struct Tally {
+    pub rows: [[u32; ROW_LENGTH]; MOST_SLOTS + 1],
 }
 
 // Whether there is a count of such events.
@@ -38,34 +26,46 @@ fn has_count(position: u8, kind: u8) -> bool
     (position as usize <= MOST_SLOTS) & (kind <= Event::WITHDRAWN)
 }
 
-// One event more. One of a position or kind that has no count, which no accepted journal has, is not counted.
-#[tactic(auto, unfolding(crate::specs::Tally::counted))]
-fn count_event(counts: &mut [u32; TALLY_LENGTH], position: u8, kind: u8)
-    requires counts_len { length counts.old ≡ tally_length }
-    requires count_fits { CountFits counts.old position kind }
-    ensures { counts.new ≡ counted counts.old position kind }
-{
-    if !has_count(position, kind) {
-        return;
+impl Tally {
+    /// No events.
+    pub fn new() -> Tally
+        ensures { (position kind : ℕ) → counts_of result position kind ≡ 0 }
+    {
+        Tally {
+            rows: [[0; ROW_LENGTH]; MOST_SLOTS + 1],
+        }
     }
-    let index = tally_index(position, kind);
-    counts[index] += 1;
-}
 
-// The counts of the first so many events of a journal.
-pub fn tally(journal: &[u8], events: usize) -> [u32; TALLY_LENGTH]
-    requires events_in_bounds { event_length * events ≤ length journal.now }
-    requires events_bound { events < 4294967296 }
-    ensures { Tallied (decode_events events journal.now) result }
-{
-    let mut counts = [0u32; TALLY_LENGTH];
-    let mut i = 0;
-    while i < events {
-        let at = EVENT_BYTES * i;
-        let end = at + EVENT_BYTES;
-        let posted = decode_event(&journal[at..end]);
-        count_event(&mut counts, posted.position, posted.event.kind);
-        i += 1;
+    /// How many events of a kind a position has.
+    pub fn count(&self, position: u8, kind: u8) -> u32
+        requires { (position ≤ most_slots) × (kind ≤ Withdrawn) }
+        ensures { result ≡ counts_of self.now position kind }
+    {
+        self.rows[position as usize][kind as usize]
     }
-    counts
+
+    /// One event more. One of a position or kind that has no count, which no accepted journal has, is not counted.
+    pub fn add(&mut self, position: u8, kind: u8)
+        requires { CountFits (counts_of self.old) position kind }
+        ensures { counts_of self.new ≡ counted (counts_of self.old) position kind }
+    {
+        if !has_count(position, kind) {
+            return;
+        }
+        let row = &mut self.rows[position as usize];
+        row[kind as usize] += 1;
+    }
+
+    /// The counts of a journal's whole events.
+    pub fn of(journal: &[u8]) -> Tally
+        requires { length journal.now / event_length < 4294967296 }
+        ensures { Tallied (decode_events (length journal.now / event_length) journal.now) (counts_of result) }
+    {
+        let mut tally = Tally::new();
+        for bytes in journal.chunks_exact(EVENT_BYTES) {
+            let posted = decode_event(bytes);
+            tally.add(posted.position, posted.event.kind);
+        }
+        tally
+    }
 }

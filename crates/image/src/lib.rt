@@ -2,7 +2,7 @@
 
 // The table image: its lengths and bytes by name.
 ghost use Rattle.std.specs.Prelude.{◌≡◌, ◌<◌};
-ghost use Rattle.image.specs.Image.{slot_length, slot_start, slot_byte, HasSlot};
+ghost use Rattle.image.specs.Image.{slot_length, slot_start, slot_byte, slot_bytes, tag_of, HasSlot};
 
 pub const HEADER_LENGTH: usize = 4;
 
@@ -49,4 +49,22 @@ pub fn slot_byte(image: &[u8], slot: u8, b: usize) -> u8
     ensures { result ≡ slot_byte image.now slot b }
 {
     image[slot_start(slot) + b]
+}
+
+/// The sixteen bytes of a slot.
+pub fn slot_of(image: &[u8], slot: u8) -> &[u8; SLOT_LENGTH]
+    requires { HasSlot image.now slot }
+    ensures { result.now ≡ slot_bytes image.now slot }
+{
+    let start = slot_start(slot);
+    image[start..start + SLOT_LENGTH].first_chunk().unwrap()
+}
+
+/// The eight bytes of a slot's tag.
+pub fn tag_of(image: &[u8], slot: u8) -> &[u8; TAG_LENGTH]
+    requires { HasSlot image.now slot }
+    ensures { result.now ≡ tag_of image.now slot }
+{
+    let start = slot_start(slot) + TAG_OFFSET;
+    image[start..start + TAG_LENGTH].first_chunk().unwrap()
 }

@@ -1,9 +1,9 @@
 -- Every refusal of a journal below the table's, computed from bytes, beside the nearest journals that pass. What a row is stands in crate table under the same
 -- name. Proved in proofs/Refusals.antt.
 use Rattle.std.specs.Prelude.{ℕ, List, [], ◌∷◌, ◌++◌, set, take, replicate}
-use Rattle.table.specs.Place.{value, refusal}
+use Rattle.refusal.specs.Refusal.{value, refusal, answer_of}
 use Rattle.table.specs.Refusals.{Row, ◌gives◌, AnswersAll}
-use Rattle.journal.specs.Check.{check_journal_of, journal_answer}
+use Rattle.journal.specs.Check.{check_journal_of}
 
 -- a slot with its kind, its next, no wires, and a tag of one letter
 abbrev slot : ℕ → ℕ → ℕ → List ℕ
@@ -85,4 +85,4 @@ journal_rows =
 
 -- theorem journal_refusals: checking a journal answers these rows so
 abbrev pub JournalRefusals : Type 0
-JournalRefusals = AnswersAll (λ given. journal_answer (check_journal_of given.0 given.1)) journal_rows
+JournalRefusals = AnswersAll (λ given. answer_of (check_journal_of given.0 given.1)) journal_rows

@@ -1,27 +1,19 @@
 // A journal judged event by event: checks 70 and 71.
-ghost use Rattle.std.specs.Prelude.{◌≡◌, ◌*◌, length};
+ghost use Rattle.std.specs.Prelude.{◌≡◌, ◌≤◌, true};
 ghost use Rattle.membership.specs.Membership.{within};
-ghost use Rattle.table.specs.Check.{Accepted};
+ghost use Rattle.image.specs.Image.{most_slots};
+ghost use Rattle.refusal.specs.Refusal.{answer_of};
 ghost use Rattle.table.specs.Blocks.{blocks_of};
-ghost use Rattle.layout.specs.Buffer.{event_length};
-ghost use Rattle.layout.specs.EventLayout.{decode_events};
-ghost use Rattle.journal.specs.Check.{none_open, first_bad, journal_verdict, answer_by, answer_by_table, check_journal_of, journal_answer};
-ghost use Rattle.journal.specs.OpenJob.{bad_number};
+ghost use Rattle.journal.specs.Check.{none_open, is_good, first_bad, events_of, journal_verdict, check_journal_of};
+ghost use Rattle.journal.specs.OpenJob.{option_of, jobs_of};
 
+use crate::jobs::OpenJobs;
 use crate::turns::takes_turn;
-use block::event::Event;
-use image::MOST_SLOTS;
-use layout::event::{EVENT_BYTES, decode_event};
-use table::blocks::kind_at;
-use table::check::{Checked, check_table};
-use table::place::{Place, Verdict};
-
-// The number of events, or a refusal.
-#[derive(Clone, Copy)]
-pub enum JournalChecked {
-    Events(usize),
-    Refused(u8, Place),
-}
+use layout::event::{EVENT_BYTES, Posted, decode_event};
+use refusal::{Answer, Check, Checked, Place, Refusal};
+use table::chain::Chain;
+use table::check::check_into;
+use table::table::Table;
 
 // Whether a table of so many blocks has this position.
 fn is_position(position: u8, count: usize) -> bool
@@ -30,102 +22,59 @@ fn is_position(position: u8, count: usize) -> bool
     (1 <= position) & (position as usize <= count)
 }
 
-// The number of the first bad event of `total`, from 1; 0 where there is none.
-fn first_bad(
-    image: &[u8],
-    slots: &[u8; MOST_SLOTS],
-    positions: &[u8; MOST_SLOTS + 1],
-    count: usize,
-    journal: &[u8],
-    total: usize,
-) -> usize
-    requires accepted { Accepted image.now count slots.now positions.now }
-    requires journal_len { length journal.now ≡ event_length * total }
-    ensures { result ≡ bad_number (first_bad (blocks_of image.now) none_open 0 (decode_events total journal.now)) }
+// Whether an event is good after those that left these jobs open: a position in the table, and its block's turn.
+#[tactic(auto, unfolding(crate::specs::Check::is_good))]
+fn is_good(table: &Table, open_jobs: &OpenJobs, posted: Posted) -> bool
+    ensures good { result ≡ is_good (blocks_of table.now) (jobs_of open_jobs.now) posted }
+    ensures inside { result ≡ true → posted.position ≤ most_slots }
 {
-    let mut opens = [false; MOST_SLOTS + 1];
-    let mut jobs = [0u64; MOST_SLOTS + 1];
-    let mut i = 0;
-    while i < total {
-        let number = i + 1;
-        let at = EVENT_BYTES * i;
-        let end = at + EVENT_BYTES;
-        let posted = decode_event(&journal[at..end]);
-        if !is_position(posted.position, count) {
-            return number;
+    if !is_position(posted.position, table.len()) {
+        return false;
+    }
+    let kind = table.kind(posted.position as usize - 1);
+    takes_turn(kind, open_jobs.get(posted.position), posted.event)
+}
+
+// The number of the first bad event, from 1.
+fn first_bad(table: &Table, journal: &[u8]) -> Option<usize>
+    ensures { option_of result ≡ first_bad (blocks_of table.now) none_open 0 (events_of journal.now) }
+{
+    let mut open_jobs = OpenJobs::new();
+    let (events, _) = journal.as_chunks::<EVENT_BYTES>();
+    for (i, bytes) in events.iter().enumerate() {
+        let posted = decode_event(bytes);
+        if !is_good(table, &open_jobs, posted) {
+            return Some(i + 1);
         }
-        let p = posted.position as usize;
-        let kind = kind_at(image, slots, positions, count, p - 1);
-        if !takes_turn(kind, opens[p], jobs[p], posted.event) {
-            return number;
-        }
-        opens[p] = posted.event.kind == Event::START;
-        jobs[p] = posted.event.job;
-        i += 1;
+        open_jobs.set(posted);
     }
-    0
+    None
 }
 
-// 70 and 71 over an accepted table's blocks.
-fn check_events(
-    image: &[u8],
-    slots: &[u8; MOST_SLOTS],
-    positions: &[u8; MOST_SLOTS + 1],
-    count: usize,
-    journal: &[u8],
-) -> Verdict
-    requires { Accepted image.now count slots.now positions.now }
-    ensures { result ≡ journal_verdict (blocks_of image.now) journal.now }
+/// 70 and 71 over an accepted table's blocks.
+pub fn check_events(table: &Table, journal: &[u8]) -> Checked<()>
+    ensures { result ≡ journal_verdict (blocks_of table.now) journal.now }
 {
-    let length = journal.len();
-    if length % EVENT_BYTES != 0 {
-        return Verdict::Failed(70, Place::Header);
+    if journal.len() % EVENT_BYTES != 0 {
+        return Err(Refusal::header(Check::EventsLength));
     }
-    let bad = first_bad(
-        image,
-        slots,
-        positions,
-        count,
-        journal,
-        length / EVENT_BYTES,
-    );
-    if bad != 0 {
-        return Verdict::Failed(71, Place::Event(bad));
-    }
-    Verdict::Passed
-}
-
-// The answer by a verdict on the journal: the number of its events, or the refusal, unchanged.
-fn answer_by(verdict: Verdict, count: usize) -> JournalChecked
-    ensures { result ≡ answer_by verdict count }
-{
-    match verdict {
-        Verdict::Passed => JournalChecked::Events(count),
-        Verdict::Failed(number, place) => JournalChecked::Refused(number, place),
+    match first_bad(table, journal) {
+        None => Ok(()),
+        Some(bad) => Err(Refusal {
+            check: Check::EventForm,
+            place: Place::Event(bad),
+        }),
     }
 }
 
-// The answer where the table checks turn the call back: their refusal, unchanged. Called with a refusal only; of an accepted table it would say no events.
-fn answer_by_table(answer: Checked) -> JournalChecked
-    ensures { result ≡ answer_by_table answer }
-{
-    match answer {
-        Checked::Blocks(_) => JournalChecked::Events(0),
-        Checked::Refused(number, place) => JournalChecked::Refused(number, place),
-    }
-}
-
-// A journal checked against a table: the number of its events, or the first check that fails.
-pub fn check_journal(image: &[u8], journal: &[u8]) -> JournalChecked
+/// A journal checked against a table: the number of its events, or the first check that fails.
+#[tactic(auto, unfolding(crate::specs::Check::check_journal_of))]
+pub fn check_journal(image: &[u8], journal: &[u8]) -> Answer
     ensures answer { result ≡ check_journal_of image.now journal.now }
-    ensures numbers { journal_answer result ≡ journal_answer (check_journal_of image.now journal.now) }
+    ensures numbers { answer_of result ≡ answer_of (check_journal_of image.now journal.now) }
 {
-    let mut slots = [0u8; MOST_SLOTS];
-    let mut positions = [0u8; MOST_SLOTS + 1];
-    let answer = check_table(image, &mut slots, &mut positions);
-    let Checked::Blocks(count) = answer else {
-        return answer_by_table(answer);
-    };
-    let verdict = check_events(image, &slots, &positions, count, journal);
-    answer_by(verdict, journal.len() / EVENT_BYTES)
+    let mut chain = Chain::new();
+    check_into(image, &mut chain)?;
+    check_events(&Table::new(image, &chain), journal)?;
+    Ok(journal.len() / EVENT_BYTES)
 }

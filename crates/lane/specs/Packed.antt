@@ -1,15 +1,15 @@
 -- Document 01: "each answer packed in one number". A value stands for itself; a refusal is its number × 2^32 + its place. A value or place above 2^32 - 1, which only a
 -- journal of 2^32 events or more has, is given as 2^32 - 1.
-use Rattle.std.specs.Prelude.{ℕ, ◌+◌, ◌-◌, ◌*◌, ◌/◌, ◌%◌, ◌≤◌, ◌<◌, cond, List, ◌≡◌, ltb, length}
+use Rattle.std.specs.Prelude.{ℕ, ◌+◌, ◌-◌, ◌*◌, ◌/◌, ◌%◌, ◌≤◌, ◌<◌, min, cond, List, ◌≡◌, nat_lt, length}
 use Rattle.words.specs.Word.{Bytes}
-use Rattle.table.specs.Place.{Answer, value, refusal}
-use Rattle.table.specs.Check.{check_of, checked_answer}
-use Rattle.table.specs.Lookup.{find_of, found_answer}
+use Rattle.refusal.specs.Refusal.{Answer, value, refusal, answer_of}
+use Rattle.table.specs.Check.{check_of}
+use Rattle.table.specs.Lookup.{find_of}
 use Rattle.engine.specs.Told.{Told}
 use Rattle.engine.specs.Fresh.{fresh_of}
-use Rattle.engine.specs.Scan.{scan_of, scan_answer}
+use Rattle.engine.specs.Scan.{scan_of}
 use Rattle.layout.specs.Buffer.{event_length}
-use Rattle.journal.specs.Check.{check_journal_of, journal_answer}
+use Rattle.journal.specs.Check.{check_journal_of}
 use Rattle.tidy.specs.Tidy.{tidy_into}
 
 -- what a refusal's number weighs
@@ -22,11 +22,11 @@ packed (refusal number place) = number * number_weight + place
 
 -- taken apart as a host does it: the upper half is 0 and the lower a value, or they are a refusal's number and its place
 unfoldable pub unpacked : ℕ → Answer
-unpacked n = cond (ltb n number_weight) (value n) (refusal (n / number_weight) (n % number_weight))
+unpacked n = cond (nat_lt n number_weight) (value n) (refusal (n / number_weight) (n % number_weight))
 
 -- a number for the lower half: the greatest there stands for every greater one
 abbrev pub saturated : ℕ → ℕ
-saturated n = cond (ltb n number_weight) n (number_weight - 1)
+saturated n = min n (number_weight - 1)
 
 -- the answer that is packed: its value or its place saturated
 unfoldable pub fitted : Answer → Answer
@@ -52,25 +52,25 @@ SaturatedIsExact = (n : ℕ) → saturated n < number_weight - 1 → saturated n
 
 -- theorems check_packable, find_packable, fresh_packable, scan_packable and tidy_packable, there too: all that the entry points answer is such
 abbrev pub CheckIsPackable : Type 0
-CheckIsPackable = (image : List ℕ) → Bytes image → Packable (checked_answer (check_of image))
+CheckIsPackable = (image : List ℕ) → Bytes image → Packable (answer_of (check_of image))
 
 abbrev pub FindIsPackable : Type 0
-FindIsPackable = (image tag : List ℕ) → Bytes image → Packable (found_answer (find_of image tag))
+FindIsPackable = (image tag : List ℕ) → Bytes image → Packable (answer_of (find_of image tag))
 
 abbrev pub FreshIsPackable : Type 0
-FreshIsPackable = (image state : List ℕ) → Bytes image → Packable (checked_answer (fresh_of image state).answer)
+FreshIsPackable = (image state : List ℕ) → Bytes image → Packable (answer_of (fresh_of image state).answer)
 
 abbrev pub ScanIsPackable : Type 0
-ScanIsPackable = (image state : List ℕ) (told : Told) (report journal : List ℕ) → Bytes image → Packable (scan_answer (scan_of image state told report journal).answer)
+ScanIsPackable = (image state : List ℕ) (told : Told) (report journal : List ℕ) → Bytes image → Packable (answer_of (scan_of image state told report journal).answer)
 
 abbrev pub TidyIsPackable : Type 0
-TidyIsPackable = (image out : List ℕ) → Bytes image → Packable (checked_answer (tidy_into image out).answer)
+TidyIsPackable = (image out : List ℕ) → Bytes image → Packable (answer_of (tidy_into image out).answer)
 
 -- theorem journal_packable, there too: so is what is answered of a journal of fewer than 2^32 events, 48 GiB
 abbrev pub JournalIsPackable : Type 0
 JournalIsPackable =
-    (image journal : List ℕ) → Bytes image → length journal < event_length * number_weight → Packable (journal_answer (check_journal_of image journal))
+    (image journal : List ℕ) → Bytes image → length journal < event_length * number_weight → Packable (answer_of (check_journal_of image journal))
 
 -- theorem fitted_journal_packable, there too: of any journal what is packed is kept, so that the number tells whether it was accepted, or which check failed
 abbrev pub FittedJournalIsPackable : Type 0
-FittedJournalIsPackable = (image journal : List ℕ) → Bytes image → Packable (fitted (journal_answer (check_journal_of image journal)))
+FittedJournalIsPackable = (image journal : List ℕ) → Bytes image → Packable (fitted (answer_of (check_journal_of image journal)))

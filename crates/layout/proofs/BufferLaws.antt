@@ -1,15 +1,17 @@
 -- One value written in a buffer: its length, the value read back, every other window and byte unchanged, values put one after another, a
 -- value that differs only in its middle, two buffers joined, and a part lent from a place on. Each law is stated once, over the place and the size: for the
 -- writers of this crate, for the engine's loop over state, report and journal, and for every crate that writes a buffer.
-use Prim.Native.Nat.{ℕ, zero, suc, ◌+◌, ◌-◌, ◌*◌, ◌≤◌, ◌<◌}
+use Prim.Native.Nat.{ℕ, zero, suc, ◌+◌, ◌-◌, ◌*◌, ◌/◌, ◌≤◌, ◌<◌}
 use mathlib.Core.Path.{◌≡◌, refl, ap, sym, ◌∙◌}
 use mathlib.Core.List.{List, [], ◌∷◌, ◌++◌, append_assoc, append-nil}
 use mathlib.Core.Bool.{Bool, true, false}
 use native.Mathlib.Omega.{arith}
-use native.Mathlib.Nat.{add-zero, add_assoc, mul-suc, mul-add, mul-le-mul_left}
+use native.Mathlib.Nat.{add-zero, add_assoc, mul_comm, mul-suc, mul-add, mul-le-mul_left}
 use native.Mathlib.Numerals.{add-one}
 use lib.Dec.{ltb}
-use lib.ListN.{length, set, take, drop, length-drop, length-append, drop_of_length-le, take-append-drop, replicate, length-replicate, replicate-append-replicate}
+use Rattle.std.specs.Simd.{first_chunks}
+use Rattle.std.proofs.lemmas.Nat.{le-div}
+use lib.ListN.{length, get_or, set, take, drop, length-drop, length-append, drop_of_length-le, take-append-drop, replicate, length-replicate, replicate-append-replicate}
 use lib.Seq.{take_all, drop-drop, take-append-le, take-append-add, drop-append-le, drop-append-add, length-take-le, take_at, drop_at, get_or-take, get_or-drop, set_split}
 use borrow.Author.Tests.{ltb-true, ltb-false}
 use borrow.Rule.Slice.PartMut.{mid_of, put_mid}
@@ -110,6 +112,20 @@ part_byte size i at s l = sym (get_or-take size (drop (size * i) s) at 0 l ∙ g
 
 pub part_length : (size i : ℕ) (s : List ℕ) → size * i + size ≤ length s → length (part size i s) ≡ size
 part_length size i s h = length-take-le size (drop (size * i) s) (simp length-drop (omega arith))
+
+-- the parts that fit, as `as_chunks` gives them
+chunk_at : (rest : List ℕ) (size k i : ℕ) (s : List ℕ) → i < k → get_or (first_chunks size k s) i rest ≡ part size i s
+chunk_at rest size zero i s h = absurd (omega arith)
+chunk_at rest size (suc k) zero s h = let none : 0 ≡ size * 0 = omega arith in ap (λ (at : ℕ). take size (drop at s)) none
+chunk_at rest size (suc k) (suc i) s h =
+    let next : size + size * i ≡ size * suc i = omega (arith, mul-suc size i) in
+    chunk_at rest size k i (drop size s) (omega arith) ∙ ap (take size) (drop-drop (size * i) size s ∙ ap (λ (at : ℕ). drop at s) next)
+
+pub part_of_chunks : (size i : ℕ) (s : List ℕ) (chunks : List (List ℕ)) (v : List ℕ) → 0 < size → size * i + size ≤ length s
+    → chunks ≡ first_chunks size (length s / size) s → v ≡ get_or chunks i v → v ≡ part size i s
+part_of_chunks size i s chunks v h fits e is =
+    let within : suc i ≤ length s / size = le-div (suc i) (length s) size h (rw (mul_comm (suc i) size, mul-suc) (omega arith)) in
+    is ∙ ap (λ (l : List (List ℕ)). get_or l i v) e ∙ chunk_at v size (length s / size) i s within
 
 -- a part of a buffer of zeros
 pub part_zeros : (size i n : ℕ) → size * i + size ≤ n → part size i (replicate n 0) ≡ replicate size 0
@@ -222,6 +238,14 @@ pub put_right : (at : ℕ) (v x y : List ℕ) → put (length x + at) v (x ++ y)
 put_right at v x y =
     rw (take-append-add x y at, add_assoc (length x) at (length v), drop-append-add x y (at + length v))
     (append_assoc x (take at y) (v ++ drop (at + length v) y))
+
+-- and where a value was put at place n of what is lent
+pub put_lent : (a n : ℕ) (v xs ys : List ℕ) → a ≤ length xs → ys ≡ put n v (take (length xs - a) (drop a xs))
+    → put_mid a (length xs - a) xs ys ≡ put (a + n) v xs
+put_lent a n v xs ys h e =
+    let l : length (take a xs) ≡ a = length-take-le a xs h in
+    lent_back a xs ys
+    ∙ rw (e, lent_part a xs) (sym (put_right n v (take a xs) (drop a xs)) ∙ (λ j. put (l j + n) v (take-append-drop a xs j)))
 
 -- bytes stay bytes
 pub bytes_take : (n : ℕ) (l : List ℕ) → Bytes l → Bytes (take n l)

@@ -1,6 +1,6 @@
 -- Check 31 on the bytes of a frame entry, with several bytes tested as one number. For `entry_bytes` and the functions that it calls.
 use Prim.Native.Nat.{ℕ, ◌+◌, ◌*◌, ◌≤◌}
-use mathlib.Core.Path.{◌≡◌, refl, ap, sym, ◌∙◌}
+use mathlib.Core.Path.{◌≡◌, refl, sym, ◌∙◌}
 use mathlib.Core.Bool.{Bool, true, false, ◌&&◌, and-false}
 use mathlib.Core.List.{List}
 use native.Mathlib.Omega.{arith}
@@ -120,12 +120,9 @@ by_piece true true true true true true true true false t = refl
 by_piece true true true true true true true true true true = refl
 by_piece true true true true true true true true true false = refl
 
-entry_tests : (s : List ℕ) → entry_bytes s ≡ head_test s && pieces_test s
+pub entry_tests : (s : List ℕ) → entry_bytes s ≡ head_test s && pieces_test s
 unfolding entry_bytes entry_form entry_fits decode_entry pieces_fit
 entry_tests s =
     let zero : ℕ → Bool = λ i. piece_zero s (piece_offset i) in
     let fits : ℕ → Bool = λ i. piece_fits (byte_at s entry_offset.count) i (decode_piece s (piece_offset i)) in
     by_piece (head_form s) (head_fits (decode_entry s)) (zero 0) (fits 0) (zero 1) (fits 1) (zero 2) (fits 2) (zero 3) (fits 3)
-
-pub entry_by_head : (s : List ℕ) (head : Bool) → head_test s ≡ head → head && pieces_test s ≡ entry_bytes s
-entry_by_head s head h = sym (entry_tests s ∙ ap (λ (b : Bool). b && pieces_test s) h)

@@ -1,26 +1,26 @@
 -- Frame entries as bytes, and back: each undoes the other, and what is read fits its bytes. For the engine, which reads entries from the frame,
 -- and for programs that build frames.
-use Prim.Native.Nat.{ℕ, suc, ◌+◌, ◌-◌, ◌*◌, ◌/◌, ◌%◌, ◌<◌, ◌≤◌}
+use Prim.Native.Nat.{ℕ, suc, ◌+◌, ◌*◌, ◌/◌, ◌%◌, ◌<◌, ◌≤◌}
 use mathlib.Core.Path.{◌≡◌, refl, ap, sym, ◌∙◌}
 use mathlib.Core.Bool.{Bool, true}
 use mathlib.Core.List.{List, [], ◌∷◌, ◌++◌, append_assoc, append-nil}
 use native.Mathlib.Omega.{arith}
 use lib.Dec.{ltb}
-use lib.ListN.{length, get_or, take, drop, take-append-drop, length-append, length-drop, replicate}
-use lib.Seq.{length-take-le, take_all, take_at, drop_at, drop-drop}
+use lib.ListN.{length, get_or, take, drop, length-drop, replicate}
+use lib.Seq.{take_all, drop_at, drop-drop}
 use borrow.Author.Tests.{ltb-true, eqb-true, lt-ltb}
 use Rattle.words.specs.Word.{Bytes, number, bytes, number_at, all_zero, zero_at}
 use Rattle.words.proofs.WordLaws.{number_one, number_split, length_bytes, bytes_bytes, number_of_bytes}
 use Rattle.block.specs.Entry.{most_pieces, entry_fits}
 use Rattle.block.specs.PackedEntry.{piece_of}
 use Rattle.block.specs.declared.entry.Piece.{Piece}
-use Rattle.block.specs.declared.entry.Entry.{Entry}
-use Rattle.layout.specs.Buffer.{entry_length, byte_at, put, job_width}
-use Rattle.layout.specs.EntryLayout.{piece_length, piece_field, entry_offset, head_length, piece_offset, pieces_end, piece_zero, entry_form, entry_bytes}
+use Rattle.block.specs.Entry.{Entry}
+use Rattle.layout.specs.Buffer.{entry_length, byte_at, job_width}
+use Rattle.layout.specs.EntryLayout.{piece_length, piece_field, entry_offset, head_length, piece_offset, piece_zero, entry_form, entry_bytes}
 use Rattle.layout.specs.EntryLayout.{encode_piece, decode_piece, encode_pieces, inputs_byte, encode_entry, decode_entry}
 use Rattle.layout.proofs.Fits.{All, nil, cons, PieceFits, EntryFits}
 use Rattle.layout.proofs.BitLaws.{inputs_bound, inputs_trip, inputs_back}
-use Rattle.layout.proofs.BufferLaws.{fill_whole, bytes_append, bytes_cons, bytes_zeros}
+use Rattle.layout.proofs.BufferLaws.{bytes_append, bytes_cons, bytes_zeros}
 use Rattle.membership.proofs.Logic.{and_right, and_join}
 use Rattle.block.proofs.Tests.{each}
 use Rattle.layout.proofs.FieldLaws.{field_bound, field_back, field_last, zero_back, byte_back}
@@ -248,7 +248,7 @@ encode_form e l =
     rw (lt-ltb (inputs_byte e.inputs) 4 (inputs_bound e.inputs), z.0, z.1, z.2, z.3)
 
 -- four pieces put one by one
-pieces_parts : (d : Piece) (ps : List Piece) → length ps ≡ most_pieces
+pub pieces_parts : (d : Piece) (ps : List Piece) → length ps ≡ most_pieces
     → encode_piece (get_or ps 0 d) ++ (encode_piece (get_or ps 1 d) ++ (encode_piece (get_or ps 2 d) ++ (encode_piece (get_or ps 3 d) ++ []))) ≡ encode_pieces ps
 unfolding encode_pieces
 pieces_parts d [] l = absurd (omega arith)
@@ -257,69 +257,6 @@ pieces_parts d (p ∷ q ∷ []) l = absurd (omega arith)
 pieces_parts d (p ∷ q ∷ r ∷ []) l = absurd (omega arith)
 pieces_parts d (p ∷ q ∷ r ∷ s ∷ []) l = refl
 pieces_parts d (p ∷ q ∷ r ∷ s ∷ t ∷ ps) l = absurd (omega arith)
-
-piece_length_lem : (p : Piece) → length (encode_piece p) ≡ piece_length
-unfolding bytes
-piece_length_lem p = refl
-
-grown : (n : ℕ) (l : List ℕ) (p : Piece) → length l ≡ n → length (l ++ encode_piece p) ≡ n + piece_length
-grown n l p h = length-append l (encode_piece p) ∙ omega (arith, piece_length_lem p)
-
-after_four : (h a b c d x : List ℕ) → h ++ a ++ b ++ c ++ d ++ x ≡ h ++ (a ++ (b ++ (c ++ (d ++ []))) ++ x)
-after_four h a b c d x = simp (append_assoc, append-nil)
-
-pub pieces_put : (z : Piece) (ps : List Piece) (s s₁ s₂ s₃ s₄ : List ℕ) → length ps ≡ most_pieces → pieces_end ≤ length s
-    → s₁ ≡ put (piece_offset 0) (encode_piece (get_or ps 0 z)) s
-    → s₂ ≡ put (piece_offset 1) (encode_piece (get_or ps 1 z)) s₁
-    → s₃ ≡ put (piece_offset 2) (encode_piece (get_or ps 2 z)) s₂
-    → s₄ ≡ put (piece_offset 3) (encode_piece (get_or ps 3 z)) s₃
-    → s₄ ≡ take head_length s ++ (encode_pieces ps ++ drop pieces_end s)
-pieces_put z ps s s₁ s₂ s₃ s₄ l f e₁ e₂ e₃ e₄ =
-    let p : ℕ → Piece = λ i. get_or ps i z in
-    let a : List ℕ = encode_piece (p 0) in
-    let b : List ℕ = encode_piece (p 1) in
-    let c : List ℕ = encode_piece (p 2) in
-    let d : List ℕ = encode_piece (p 3) in
-    let h : List ℕ = take head_length s in
-    let l₀ : length h ≡ head_length = length-take-le head_length s (omega arith) in
-    let l₁ : length (h ++ a) ≡ piece_offset 1 = grown (piece_offset 0) h (p 0) l₀ in
-    let l₂ : length (h ++ a ++ b) ≡ piece_offset 2 = grown (piece_offset 1) (h ++ a) (p 1) l₁ in
-    let l₃ : length (h ++ a ++ b ++ c) ≡ piece_offset 3 = grown (piece_offset 2) (h ++ a ++ b) (p 2) l₂ in
-    let g₁ = fill_whole (piece_offset 0) piece_length h a s s s₁ l₀ (piece_length_lem (p 0)) (sym (take-append-drop head_length s)) e₁ in
-    let g₂ = fill_whole (piece_offset 1) piece_length (h ++ a) b s s₁ s₂ l₁ (piece_length_lem (p 1)) g₁ e₂ in
-    let g₃ = fill_whole (piece_offset 2) piece_length (h ++ a ++ b) c s s₂ s₃ l₂ (piece_length_lem (p 2)) g₂ e₃ in
-    let g₄ = fill_whole (piece_offset 3) piece_length (h ++ a ++ b ++ c) d s s₃ s₄ l₃ (piece_length_lem (p 3)) g₃ e₄ in
-    g₄ ∙ after_four h a b c d (drop pieces_end s) ∙ ap (λ (x : List ℕ). h ++ (x ++ drop pieces_end s)) (pieces_parts z ps l)
-
--- the pieces and the job put after the head
-pub tail_put : (ps : List Piece) (job : ℕ) (s s₁ s₂ : List ℕ) → length ps ≡ most_pieces → entry_length ≤ length s
-    → s₁ ≡ take head_length s ++ (encode_pieces ps ++ drop pieces_end s) → s₂ ≡ put entry_offset.job (bytes job_width job) s₁
-    → s₂ ≡ take head_length s ++ (encode_pieces ps ++ bytes job_width job ++ drop entry_length s)
-tail_put ps job s s₁ s₂ l f e₁ e₂ =
-    let h : List ℕ = take head_length s in
-    let p : List ℕ = encode_pieces ps in
-    let j : List ℕ = bytes job_width job in
-    let to : length (h ++ p) ≡ pieces_end = length-append h p ∙ omega (arith, length-take-le head_length s (omega arith), pieces_length ps l) in
-    fill_whole pieces_end job_width (h ++ p) j s s₁ s₂ to (length_bytes job_width job) (e₁ ∙ sym (append_assoc h p (drop pieces_end s))) e₂
-    ∙ simp append_assoc
-
-head_length_lem : (e : Entry) → length (take head_length (encode_entry e)) ≡ head_length
-unfolding encode_entry bytes
-head_length_lem e = refl
-
--- the head, and what stands after it put there
-pub entry_put : (e : Entry) (s s₁ s₂ : List ℕ) → s₁ ≡ take head_length (encode_entry e) ++ drop head_length s
-    → s₂ ≡ take head_length s₁ ++ (encode_pieces e.pieces ++ bytes job_width e.job ++ drop entry_length s₁) → s₂ ≡ encode_entry e ++ drop entry_length s
-entry_put e s s₁ s₂ e₁ e₂ =
-    let n : ℕ = head_length in
-    let m : ℕ = entry_length - head_length in
-    let h : List ℕ = take n (encode_entry e) in
-    let tail : List ℕ = encode_pieces e.pieces ++ bytes job_width e.job in
-    let front : take n s₁ ≡ h = ap (take n) e₁ ∙ take_at h (drop n s) n (head_length_lem e) in
-    let back : drop (n + m) s₁ ≡ drop (n + m) s =
-    sym (drop-drop m n s₁) ∙ ap (drop m) (ap (drop n) e₁ ∙ drop_at h (drop n s) n (head_length_lem e)) ∙ drop-drop m n s in
-    let whole : h ++ tail ≡ encode_entry e = ap (λ (x : List ℕ). h ++ x) (sym (after_head e)) ∙ take-append-drop n (encode_entry e) in
-    e₂ ∙ rw (front, back) (sym (append_assoc h tail (drop (n + m) s)) ∙ ap (λ (x : List ℕ). x ++ drop (n + m) s) whole)
 
 -- what passes check 31: an entry as the paper says that fits its bytes
 pub entry_fits_lem : (s : List ℕ) → entry_bytes s ≡ true → entry_fits (decode_entry s) ≡ true

@@ -6,7 +6,7 @@ use lib.ListN.{length}
 use Rattle.block.specs.Entry.{most_pieces}
 use Rattle.block.specs.declared.record.Record.{Record}
 use Rattle.block.specs.declared.entry.Piece.{Piece}
-use Rattle.block.specs.declared.entry.Entry.{Entry}
+use Rattle.block.specs.Entry.{Entry}
 use Rattle.block.specs.declared.event.Event.{Event}
 use Rattle.layout.specs.Buffer.{job_width}
 

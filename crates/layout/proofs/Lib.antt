@@ -1,5 +1,6 @@
 pub mod BitLaws
 pub mod BufferLaws
+pub mod Fields
 pub mod Fits
 pub mod FieldLaws
 pub mod RecordLaws

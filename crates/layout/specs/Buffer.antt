@@ -1,5 +1,6 @@
 -- Lengths by name, and parts of a buffer by their index: document 01, "State record" and so on, with the lengths of document 02, 3/14.
-use Rattle.std.specs.Prelude.{ℕ, ◌+◌, ◌*◌, List, ◌++◌, length, take, drop, get_or}
+use Rattle.std.specs.Prelude.{ℕ, ◌*◌, List, take, drop, slice_index}
+pub use Rattle.words.specs.Word.{put}
 
 -- "State record: 40 bytes"
 abbrev pub record_length : ℕ
@@ -22,12 +23,8 @@ abbrev pub job_width : ℕ
 job_width = 8
 
 abbrev pub byte_at : List ℕ → ℕ → ℕ
-byte_at s i = get_or s i 0
+byte_at s i = slice_index s i
 
 -- part i, from 0, of a buffer whose parts have `size` bytes each
 abbrev pub part : ℕ → ℕ → List ℕ → List ℕ
 part size i s = take size (drop (size * i) s)
-
--- the buffer with the bytes v from a place on, where they fit
-abbrev pub put : ℕ → List ℕ → List ℕ → List ℕ
-put at v s = take at s ++ (v ++ drop (at + length v) s)

@@ -1,13 +1,13 @@
 -- Document 01, "Frame entry", with the job as document 02, 3/14 places it: an entry as bytes, and back.
-use Rattle.std.specs.Prelude.{ℕ, ◌+◌, ◌*◌, Bool, ◌&&◌, List, [], ◌∷◌, ◌++◌, eqb, ltb, replicate}
+use Rattle.std.specs.Prelude.{ℕ, ◌+◌, ◌*◌, Bool, ◌&&◌, List, [], ◌∷◌, ◌++◌, ◌==◌, nat_lt, replicate}
 use Rattle.words.specs.Word.{bytes, number_at, zero_at}
 use Rattle.block.specs.Record.{bit}
-use Rattle.block.specs.Entry.{most_pieces, entry_fits}
+use Rattle.block.specs.Entry.{entry_fits}
 use Rattle.layout.specs.Buffer.{byte_at, job_width}
 use Rattle.layout.specs.RecordLayout.{bit_of}
 use Rattle.block.specs.declared.entry.Inputs.{Inputs}
 use Rattle.block.specs.declared.entry.Piece.{Piece}
-use Rattle.block.specs.declared.entry.Entry.{Entry}
+use Rattle.block.specs.Entry.{Entry}
 
 -- "pieces of 8: reply, zero, code (2 bytes), clock after the piece (4 bytes)"
 abbrev pub piece_length : ℕ
@@ -30,7 +30,7 @@ decode_piece s at = record { reply = byte_at s at; code = number_at 2 s (at + pi
 
 -- whether its zero byte is zero
 abbrev pub piece_zero : List ℕ → ℕ → Bool
-piece_zero s at = eqb (byte_at s (at + piece_field.unnamed)) 0
+piece_zero s at = byte_at s (at + piece_field.unnamed) == 0
 
 unfoldable pub encode_pieces : List Piece → List ℕ
 encode_pieces [] = []
@@ -63,15 +63,12 @@ abbrev pub entry_offset : EntryOffsets
 entry_offset =
     record { inputs = 0; count = 1; abort_reply = 2; reset_reply = 3; abort_code = 4; unnamed_pair = 6; unnamed_quad = 8; limit = 12; timeout = 16; clock = 20; pieces = 24; job = 56 }
 
--- the bytes before the pieces; piece i, from 0; the end of the four
+-- the bytes before the pieces; piece i, from 0
 abbrev pub head_length : ℕ
 head_length = entry_offset.pieces
 
 abbrev pub piece_offset : ℕ → ℕ
 piece_offset i = head_length + piece_length * i
-
-abbrev pub pieces_end : ℕ
-pieces_end = piece_offset most_pieces
 
 unfoldable pub encode_entry : Entry → List ℕ
 encode_entry e =
@@ -103,7 +100,7 @@ decode_entry s =
 -- "others zero"; the unnamed bytes are zero, before the pieces
 abbrev pub head_form : List ℕ → Bool
 head_form s =
-    ltb (byte_at s entry_offset.inputs) 4 && zero_at 2 s entry_offset.unnamed_pair && zero_at 4 s entry_offset.unnamed_quad
+    nat_lt (byte_at s entry_offset.inputs) 4 && zero_at 2 s entry_offset.unnamed_pair && zero_at 4 s entry_offset.unnamed_quad
 
 -- and in each piece
 unfoldable pub entry_form : List ℕ → Bool

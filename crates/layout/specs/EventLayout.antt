@@ -1,5 +1,5 @@
 -- Document 01, "Report and journal", with the job as document 02, 3/14 has it: journal events as bytes, and back.
-use Rattle.std.specs.Prelude.{ℕ, zero, suc, cond, List, [], ◌∷◌, ◌++◌, eqb}
+use Rattle.std.specs.Prelude.{ℕ, zero, suc, cond, List, [], ◌∷◌, ◌++◌, ◌==◌}
 use Rattle.words.specs.Word.{bytes, number_at}
 use Rattle.layout.specs.Buffer.{byte_at, part, event_length, job_width}
 use Rattle.block.specs.declared.event.Event.{Event}
@@ -39,4 +39,4 @@ decode_events (suc n) s = decode_events n s ++ (decode_event (part event_length 
 -- "A block's entries are the events there with its position."
 unfoldable pub events_at : ℕ → List Posted → List Event
 events_at position [] = []
-events_at position (p ∷ ps) = cond (eqb p.position position) (p.event ∷ events_at position ps) (events_at position ps)
+events_at position (p ∷ ps) = cond (p.position == position) (p.event ∷ events_at position ps) (events_at position ps)

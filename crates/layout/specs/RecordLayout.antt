@@ -1,5 +1,5 @@
 -- Document 01, "State record", with the job as document 02, 3/14 places it: a record as bytes, and back.
-use Rattle.std.specs.Prelude.{ℕ, ◌+◌, ◌*◌, ◌/◌, ◌%◌, Bool, ◌&&◌, List, [], ◌∷◌, ◌++◌, eqb, ltb, leb, replicate}
+use Rattle.std.specs.Prelude.{ℕ, ◌+◌, ◌*◌, ◌/◌, ◌%◌, Bool, ◌&&◌, List, [], ◌∷◌, ◌++◌, ◌==◌, nat_lt, nat_le, replicate}
 use Rattle.words.specs.Word.{bytes, number_at, zero_at}
 use Rattle.clock.specs.declared.Timer.{Timer}
 use Rattle.block.specs.Record.{bit}
@@ -10,7 +10,7 @@ use Rattle.block.specs.declared.record.Record.{Record}
 
 -- the bit of a byte that has this weight
 abbrev pub bit_of : ℕ → ℕ → Bool
-bit_of b weight = eqb (b / weight % 2) 1
+bit_of b weight = b / weight % 2 == 1
 
 -- "1 flags (bits 0-3 busy, done, error, aborted)"
 abbrev pub flags_byte : Flags → ℕ
@@ -56,7 +56,7 @@ decode_record s =
     record {
       step = byte_at s record_offset.step;
       flags = decode_flags (byte_at s record_offset.flags);
-      request = eqb (byte_at s record_offset.request) 1;
+      request = byte_at s record_offset.request == 1;
       job = number_at job_width s record_offset.job;
       code = number_at 2 s record_offset.code;
       limit = number_at 4 s record_offset.limit;
@@ -71,9 +71,9 @@ encode_timer t = bytes 4 t.last ++ bytes 8 t.elapsed
 -- "request at most 1, unnamed bytes and bits zero"
 unfoldable pub record_form : List ℕ → Bool
 record_form s =
-    ltb (byte_at s record_offset.flags) 16
-    && leb (byte_at s record_offset.request) 1
-    && eqb (byte_at s record_offset.unnamed) 0
+    nat_lt (byte_at s record_offset.flags) 16
+    && nat_le (byte_at s record_offset.request) 1
+    && byte_at s record_offset.unnamed == 0
     && zero_at 4 s record_offset.unnamed_quad
     && zero_at 2 s record_offset.unnamed_pair
 

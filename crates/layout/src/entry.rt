@@ -1,17 +1,20 @@
 // A frame entry as bytes, and back.
-ghost use Rattle.std.specs.Prelude.{◌≡◌, ◌&&◌, ◌++◌, ◌+◌, ◌*◌, ◌≤◌, length, take, drop};
-ghost use Rattle.words.specs.Word.{bytes, zero_at};
+ghost use Rattle.std.specs.Prelude.{◌≡◌, ◌&&◌, ◌++◌, ◌+◌, ◌*◌, ◌≤◌, length, drop};
+ghost use Rattle.words.specs.Word.{zero_at};
 ghost use Rattle.block.specs.PackedEntry.{entry_of};
 ghost use Rattle.block.specs.Entry.{most_pieces, code_fits, piece_form, piece_fits, head_fits};
-ghost use Rattle.layout.specs.Buffer.{entry_length, job_width, put};
-ghost use Rattle.layout.specs.EntryLayout.{entry_offset, piece_length, head_length, pieces_end, head_form, piece_zero};
-ghost use Rattle.layout.specs.EntryLayout.{inputs_byte, decode_inputs, encode_piece, decode_piece, encode_pieces, encode_entry, decode_entry, entry_bytes};
+ghost use Rattle.layout.specs.Buffer.{entry_length};
+ghost use Rattle.layout.specs.EntryLayout.{entry_offset, piece_length, head_length, head_form, piece_zero};
+ghost use Rattle.layout.specs.EntryLayout.{inputs_byte, decode_inputs, encode_piece, decode_piece, encode_entry, decode_entry, entry_bytes};
 
-use block::entry::{Entry, Inputs, PIECES, PackedEntry, Piece};
+use crate::record::bit;
+use block::entry::{Entry, Inputs, PackedEntry, Piece};
+use words::{put_at, read_at};
 
-// Bytes of a frame entry, of each of its four pieces, and of what stands before them.
+/// Bytes of a frame entry.
 pub const ENTRY_BYTES: usize = 64;
 
+// Bytes of each of its four pieces, and of what stands before them.
 const PIECE_BYTES: usize = 8;
 
 const HEAD_BYTES: usize = 24;
@@ -19,9 +22,10 @@ const HEAD_BYTES: usize = 24;
 // The greatest reply, as a number of two bytes.
 const MOST_REPLY: u16 = Entry::ERROR as u16;
 
-// Where its fields begin, and its pieces.
+/// Where its byte of inputs stands.
 pub const INPUTS_OFFSET: usize = 0;
 
+// Where its other fields begin, and its pieces.
 const COUNT_OFFSET: usize = 1;
 
 const ABORT_REPLY_OFFSET: usize = 2;
@@ -40,8 +44,14 @@ const TIME_OUT_OFFSET: usize = 16;
 
 const CLOCK_OFFSET: usize = 20;
 
-// Within a piece; its reply is first.
+// Within a piece.
+const PIECE_REPLY_OFFSET: usize = 0;
+
+const PIECE_UNNAMED_OFFSET: usize = 1;
+
 const PIECE_CODE_OFFSET: usize = 2;
+
+const PIECE_CLOCK_OFFSET: usize = 4;
 
 const FIRST_PIECE: usize = HEAD_BYTES;
 
@@ -54,6 +64,7 @@ const FOURTH_PIECE: usize = THIRD_PIECE + PIECE_BYTES;
 // The job is last.
 const JOB_OFFSET: usize = FOURTH_PIECE + PIECE_BYTES;
 
+/// The inputs in their byte, whatever its other bits are: bit 0 start, bit 1 abort.
 pub fn decode_inputs(b: u8) -> Inputs
     ensures { result ≡ decode_inputs b }
 {
@@ -63,50 +74,48 @@ pub fn decode_inputs(b: u8) -> Inputs
     }
 }
 
-// The entry in its bytes, each piece as one number.
-pub fn decode_entry(s: &[u8]) -> PackedEntry
-    requires { entry_length ≤ length s.now }
+/// The entry in its bytes, each piece as one number.
+pub fn decode_entry(s: &[u8; ENTRY_BYTES]) -> PackedEntry
     ensures { entry_of result ≡ decode_entry s.now }
 {
     let pieces = [
-        words::u64_at(s, FIRST_PIECE),
-        words::u64_at(s, SECOND_PIECE),
-        words::u64_at(s, THIRD_PIECE),
-        words::u64_at(s, FOURTH_PIECE),
+        read_at(s, FIRST_PIECE),
+        read_at(s, SECOND_PIECE),
+        read_at(s, THIRD_PIECE),
+        read_at(s, FOURTH_PIECE),
     ];
     PackedEntry {
         inputs: decode_inputs(s[INPUTS_OFFSET]),
         count: s[COUNT_OFFSET],
         abort_reply: s[ABORT_REPLY_OFFSET],
         reset_reply: s[RESET_REPLY_OFFSET],
-        abort_code: words::u16_at(s, ABORT_CODE_OFFSET),
-        job: words::u64_at(s, JOB_OFFSET),
-        limit: words::u32_at(s, LIMIT_OFFSET),
-        timeout: words::u32_at(s, TIME_OUT_OFFSET),
-        clock: words::u32_at(s, CLOCK_OFFSET),
+        abort_code: read_at(s, ABORT_CODE_OFFSET),
+        job: read_at(s, JOB_OFFSET),
+        limit: read_at(s, LIMIT_OFFSET),
+        timeout: read_at(s, TIME_OUT_OFFSET),
+        clock: read_at(s, CLOCK_OFFSET),
         pieces,
     }
 }
 
+#[tactic(auto, using(crate::proofs::EntryCheckLaws::code_zero, crate::proofs::EntryCheckLaws::code_error), unfolding(crate::specs::EntryLayout::decode_entry))]
 // The abort code and the six unnamed bytes after it. Without an error reply all are zero, and one number.
-fn abort_code_fits(s: &[u8]) -> bool
-    requires { entry_length ≤ length s.now }
+fn abort_code_fits(s: &[u8; ENTRY_BYTES]) -> bool
     ensures { result
         ≡ code_fits (decode_entry s.now).abort_reply (decode_entry s.now).abort_code
         && zero_at 2 s.now entry_offset.unnamed_pair && zero_at 4 s.now entry_offset.unnamed_quad }
 {
     if s[ABORT_REPLY_OFFSET] != Entry::ERROR {
-        return words::u64_at(s, ABORT_CODE_OFFSET) == 0;
+        return read_at::<u64>(s, ABORT_CODE_OFFSET) == 0;
     }
-    block::entry::code_fits(Entry::ERROR, words::u16_at(s, ABORT_CODE_OFFSET))
-        & (words::u16_at(s, UNNAMED_PAIR_OFFSET) == 0)
-        & (words::u32_at(s, UNNAMED_QUAD_OFFSET) == 0)
+    block::entry::code_fits(Entry::ERROR, read_at::<u16>(s, ABORT_CODE_OFFSET))
+        & (read_at::<u16>(s, UNNAMED_PAIR_OFFSET) == 0)
+        & (read_at::<u32>(s, UNNAMED_QUAD_OFFSET) == 0)
 }
 
 // What stands before the pieces: the fields of one byte, each with its own return, then the abort code and the unnamed bytes.
 #[tactic(auto, unfolding(crate::specs::EntryLayout::decode_entry))]
-fn head_fits(s: &[u8]) -> bool
-    requires { entry_length ≤ length s.now }
+fn head_fits(s: &[u8; ENTRY_BYTES]) -> bool
     ensures { result ≡ head_form s.now && head_fits (decode_entry s.now) }
 {
     if s[INPUTS_OFFSET] >= 4 {
@@ -124,15 +133,17 @@ fn head_fits(s: &[u8]) -> bool
     abort_code_fits(s)
 }
 
+#[tactic(auto, using(crate::proofs::EntryCheckLaws::piece_within))]
 // A piece of the count: its reply and the zero byte after it, then its code.
 fn piece_form(s: &[u8], at: usize) -> bool
     requires { at + piece_length ≤ length s.now }
     ensures { result ≡ piece_zero s.now at && piece_form (decode_piece s.now at) }
 {
-    (words::u16_at(s, at) <= MOST_REPLY)
-        & block::entry::code_fits(s[at], words::u16_at(s, at + PIECE_CODE_OFFSET))
+    (read_at::<u16>(s, at) <= MOST_REPLY)
+        & block::entry::code_fits(s[at], read_at::<u16>(s, at + PIECE_CODE_OFFSET))
 }
 
+#[tactic(auto, using(crate::proofs::EntryCheckLaws::piece_past, crate::proofs::EntryCheckLaws::piece_uncounted))]
 // Piece `i` of an entry that has `count` of them, at its place; a piece past the count is zero.
 fn piece_fits(s: &[u8], at: usize, i: u8, count: u8) -> bool
     requires { at + piece_length ≤ length s.now }
@@ -141,23 +152,22 @@ fn piece_fits(s: &[u8], at: usize, i: u8, count: u8) -> bool
     if i < count {
         return piece_form(s, at);
     }
-    words::u64_at(s, at) == 0
+    read_at::<u64>(s, at) == 0
 }
 
 // All four pieces are zero.
-fn pieces_zero(s: &[u8]) -> bool
-    requires { entry_length ≤ length s.now }
+fn pieces_zero(s: &[u8; ENTRY_BYTES]) -> bool
     ensures { result ≡ zero_at (piece_length * most_pieces) s.now head_length }
 {
-    (words::u64_at(s, FIRST_PIECE) == 0)
-        & (words::u64_at(s, SECOND_PIECE) == 0)
-        & (words::u64_at(s, THIRD_PIECE) == 0)
-        & (words::u64_at(s, FOURTH_PIECE) == 0)
+    (read_at::<u64>(s, FIRST_PIECE) == 0)
+        & (read_at::<u64>(s, SECOND_PIECE) == 0)
+        & (read_at::<u64>(s, THIRD_PIECE) == 0)
+        & (read_at::<u64>(s, FOURTH_PIECE) == 0)
 }
 
-// Check 31 of one entry: its head, then its pieces, at once where it has none.
-pub fn entry_bytes(s: &[u8]) -> bool
-    requires { entry_length ≤ length s.now }
+#[tactic(auto, using(crate::proofs::EntryCheckLaws::entry_tests, crate::proofs::EntryCheckLaws::no_pieces))]
+/// Check 31 of one entry: its head, then its pieces, at once where it has none.
+pub fn entry_bytes(s: &[u8; ENTRY_BYTES]) -> bool
     ensures { result ≡ entry_bytes s.now }
 {
     if !head_fits(s) {
@@ -179,99 +189,47 @@ pub fn entry_bytes(s: &[u8]) -> bool
     piece_fits(s, FOURTH_PIECE, 3, count)
 }
 
+// The byte of inputs.
 fn inputs_byte(i: Inputs) -> u8
     ensures { result ≡ inputs_byte i }
 {
-    crate::record::bit(i.start) + 2 * crate::record::bit(i.abort)
+    bit(i.start) + 2 * bit(i.abort)
 }
 
-// What stands before the pieces.
-fn encode_head(e: Entry) -> [u8; HEAD_BYTES]
-    ensures { result ≡ take head_length (encode_entry e) }
+// The first bytes of what is lent become the piece.
+fn write_piece(out: &mut [u8], p: Piece)
+    requires { piece_length ≤ length out.old }
+    ensures { out.new ≡ encode_piece p ++ drop piece_length out.old }
 {
-    let code = words::u16_bytes(e.abort_code);
-    let limit = words::u32_bytes(e.limit);
-    let timeout = words::u32_bytes(e.timeout);
-    let clock = words::u32_bytes(e.clock);
-    [
-        inputs_byte(e.inputs),
-        e.count,
-        e.abort_reply,
-        e.reset_reply,
-        code[0],
-        code[1],
-        0,
-        0,
-        0,
-        0,
-        0,
-        0,
-        limit[0],
-        limit[1],
-        limit[2],
-        limit[3],
-        timeout[0],
-        timeout[1],
-        timeout[2],
-        timeout[3],
-        clock[0],
-        clock[1],
-        clock[2],
-        clock[3],
-    ]
+    put_at(out, PIECE_REPLY_OFFSET, p.reply);
+    put_at(out, PIECE_UNNAMED_OFFSET, 0u8);
+    put_at(out, PIECE_CODE_OFFSET, p.code);
+    put_at(out, PIECE_CLOCK_OFFSET, p.clock);
 }
 
-fn encode_piece(p: Piece) -> [u8; PIECE_BYTES]
-    ensures { result ≡ encode_piece p }
-{
-    let code = words::u16_bytes(p.code);
-    let clock = words::u32_bytes(p.clock);
-    [
-        p.reply, 0, code[0], code[1], clock[0], clock[1], clock[2], clock[3],
-    ]
-}
-
-fn put_piece(s: &mut [u8], at: usize, p: Piece)
-    requires { at + piece_length ≤ length s.old }
-    ensures { s.new ≡ put at (encode_piece p) s.old }
-{
-    let b = encode_piece(p);
-    words::copy(&b, &mut s[at..]);
-}
-
-// The four pieces are written after the head.
-fn put_pieces(s: &mut [u8], ps: [Piece; PIECES])
-    requires { pieces_end ≤ length s.old }
-    ensures { s.new ≡ take head_length s.old ++ (encode_pieces ps ++ drop pieces_end s.old) }
-{
-    put_piece(s, FIRST_PIECE, ps[0]);
-    put_piece(s, SECOND_PIECE, ps[1]);
-    put_piece(s, THIRD_PIECE, ps[2]);
-    put_piece(s, FOURTH_PIECE, ps[3]);
-}
-
-// What stands after the head.
-fn put_tail(s: &mut [u8], ps: [Piece; PIECES], job: u64)
-    requires { entry_length ≤ length s.old }
-    ensures { s.new
-        ≡ take head_length s.old ++ (encode_pieces ps ++ bytes job_width job ++ drop entry_length s.old) }
-{
-    put_pieces(s, ps);
-    crate::job::put_job(s, JOB_OFFSET, job);
-}
-
-// The first bytes of what is lent become the entry.
+/// The first bytes of what is lent become the entry.
 pub fn write_entry(out: &mut [u8], e: Entry)
     requires { entry_length ≤ length out.old }
     ensures { out.new ≡ encode_entry e ++ drop entry_length out.old }
 {
-    let head = encode_head(e);
-    words::copy(&head, out);
-    let pieces = e.pieces;
-    put_tail(out, pieces, e.job);
+    put_at(out, INPUTS_OFFSET, inputs_byte(e.inputs));
+    put_at(out, COUNT_OFFSET, e.count);
+    put_at(out, ABORT_REPLY_OFFSET, e.abort_reply);
+    put_at(out, RESET_REPLY_OFFSET, e.reset_reply);
+    put_at(out, ABORT_CODE_OFFSET, e.abort_code);
+    put_at(out, UNNAMED_PAIR_OFFSET, 0u16);
+    put_at(out, UNNAMED_QUAD_OFFSET, 0u32);
+    put_at(out, LIMIT_OFFSET, e.limit);
+    put_at(out, TIME_OUT_OFFSET, e.timeout);
+    put_at(out, CLOCK_OFFSET, e.clock);
+    write_piece(&mut out[FIRST_PIECE..], e.pieces[0]);
+    write_piece(&mut out[SECOND_PIECE..], e.pieces[1]);
+    write_piece(&mut out[THIRD_PIECE..], e.pieces[2]);
+    write_piece(&mut out[FOURTH_PIECE..], e.pieces[3]);
+    put_at(out, JOB_OFFSET, e.job);
 }
 
-// The bytes of an entry.
+/// The bytes of an entry.
 pub fn encode_entry(e: Entry) -> [u8; ENTRY_BYTES]
     ensures { result ≡ encode_entry e }
 {

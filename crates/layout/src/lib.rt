@@ -1,7 +1,7 @@
 #![tactic(auto)]
 
 // Records, frame entries, report entries and events as bytes, and back.
-pub mod job; // the job in each of them
+pub mod buffer; // parts of a buffer
 pub mod record; // the state record
 pub mod entry; // the frame entry
 pub mod report; // the report entry

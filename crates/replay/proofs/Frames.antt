@@ -1,12 +1,7 @@
 -- A frame made of an entry for each block: each is read back, and the frame passes its checks. For the scans that write a journal.
-use Prim.Native.Nat.{ℕ, zero, suc, ◌*◌, ◌<◌}
-use native.Mathlib.Decide.{ℕ_discrete}
-use native.Mathlib.Omega.{arith}
-use mathlib.Core.Bool.{true}
-use mathlib.Core.List.{List, [], ◌++◌}
-use mathlib.Core.Path.{◌≡◌, refl, ap, ◌∙◌}
-use lib.ListN.{length, take, length-append}
-use lib.Seq.{take_all, drop_at}
+use Rattle.std.proofs.Common.{◌≡◌, ℕ, zero, suc, ◌*◌, ◌<◌, true, List, [], ◌++◌, length, refl, ap, ◌∙◌, arith, length-append, take_all, drop_at}
+use Rattle.std.proofs.Math.Decide.{ℕ_discrete}
+use Rattle.std.proofs.Math.Logic.{by_cases}
 use Rattle.words.specs.Word.{Bytes}
 use Rattle.layout.specs.Buffer.{entry_length, part}
 use Rattle.layout.specs.EntryLayout.{encode_entry, decode_entry, entry_bytes}
@@ -14,7 +9,7 @@ use Rattle.layout.proofs.Fits.{EntryFits}
 use Rattle.layout.proofs.BufferLaws.{bytes_append, bytes_zeros, part_left}
 use Rattle.layout.proofs.EntryLaws.{decode_encode, encode_length, encode_bytes, entry_encode}
 use Rattle.block.specs.Entry.{entry_fits}
-use Rattle.block.specs.declared.entry.Entry.{Entry}
+use Rattle.block.specs.Entry.{Entry}
 use Rattle.engine.specs.Serve.{entry_in}
 
 -- the entries f 0 to f (n - 1)
@@ -29,7 +24,7 @@ module _ (f : ℕ → Entry) (fits : (i : ℕ) → EntryFits (f i)) where
   pub frame_length : (n : ℕ) → length (frame_of f n) ≡ entry_length * n
   unfolding frame_of
   frame_length zero = refl
-  frame_length (suc n) = length-append (frame_of f n) (encode_entry (f n)) ∙ omega (arith, frame_length n, entry_length_lem n)
+  frame_length (suc n) = rw length-append (omega (arith, frame_length n, entry_length_lem n))
 
   pub frame_bytes : (n : ℕ) → Bytes (frame_of f n)
   unfolding frame_of
@@ -39,14 +34,10 @@ module _ (f : ℕ → Entry) (fits : (i : ℕ) → EntryFits (f i)) where
   frame_part : (n i : ℕ) → i < n → part entry_length i (frame_of f n) ≡ encode_entry (f i)
   unfolding frame_of
   frame_part zero i l = absurd (omega arith)
-  frame_part (suc n) i l = by (ℕ_discrete i n) (λ m. frame_part n i m)
-    where
-      by : Dec (i ≡ n) → (i < n → part entry_length i (frame_of f n) ≡ encode_entry (f i)) → part entry_length i (frame_of f n ++ encode_entry (f n)) ≡ encode_entry (f i)
-      by (yes e) before =
-          rw e
-          (ap (take entry_length) (drop_at (frame_of f n) (encode_entry (f n)) (entry_length * n) (frame_length n))
-          ∙ take_all entry_length (encode_entry (f n)) (omega (arith, entry_length_lem n)))
-      by (no m) before = part_left entry_length i (frame_of f n) (encode_entry (f n)) (omega (arith, frame_length n)) ∙ before (omega arith)
+  frame_part (suc n) i l =
+      by_cases (ℕ_discrete i n)
+      (λ e. rw (e, drop_at (frame_of f n) (encode_entry (f n)) (entry_length * n) (frame_length n)) (take_all entry_length (encode_entry (f n)) (omega (arith, entry_length_lem n))))
+      (λ m. part_left entry_length i (frame_of f n) (encode_entry (f n)) (omega (arith, frame_length n)) ∙ frame_part n i (omega arith))
 
   pub frame_entry : (n i : ℕ) → i < n → entry_in (frame_of f n) i ≡ f i
   frame_entry n i l = ap decode_entry (frame_part n i l) ∙ decode_encode (f i) (fits i)

@@ -1,14 +1,8 @@
 -- The bytes that a list of scans wrote are the encoding of its journal, and its events fit their bytes. For both directions of the theorem about written journals.
-use Prim.Native.Nat.{ℕ, zero, suc, ◌+◌, ◌*◌, ◌≤◌}
-use native.Mathlib.Omega.{arith}
-use mathlib.Core.List.{List, ◌++◌, append_assoc}
-use mathlib.Core.Path.{◌≡◌, refl, ap, sym, ◌∙◌, subst}
-use lib.ListN.{length, take, drop, length-append}
-use lib.Seq.{length-take-le, take_at}
+use Rattle.std.proofs.Common.{◌≡◌, ℕ, zero, suc, ◌+◌, ◌*◌, ◌≤◌, List, ◌++◌, length, take, Ok, Err, refl, ap, sym, ◌∙◌, subst, arith, append_assoc, length-append, length-take-le, take_at}
 use Rattle.words.specs.Word.{Bytes}
 use Rattle.table.specs.Blocks.{Block, blocks_of}
-use Rattle.table.specs.declared.place.Verdict.{Verdict}
-use Rattle.table.specs.declared.place.Verdict.TheVariants.{Passed, Failed}
+use Rattle.refusal.specs.Refusal.{Verdict}
 use Rattle.layout.specs.Buffer.{record_length, report_length, event_length, put}
 use Rattle.layout.specs.EventLayout.{encode_events, decode_events}
 use Rattle.layout.specs.declared.event.Posted.{Posted}
@@ -38,12 +32,9 @@ pub record Encodes (bytes : List ℕ) (events : List Posted) : Type 0 where
 front_after : (n position : ℕ) (vs : List Event) (journal : List ℕ) → event_length * n ≤ length journal
     → take (event_length * (n + length vs)) (put (event_length * n) (encode_events position vs) journal) ≡ take (event_length * n) journal ++ encode_events position vs
 front_after n position vs journal room =
-    let front : List ℕ = take (event_length * n) journal in
-    let own : List ℕ = encode_events position vs in
-    let rest : List ℕ = drop (event_length * n + length own) journal in
-    let l : length (front ++ own) ≡ event_length * (n + length vs) =
-    length-append front own ∙ omega (arith, length-take-le (event_length * n) journal room, events_length position vs) in
-    ap (take (event_length * (n + length vs))) (sym (append_assoc front own rest)) ∙ take_at (front ++ own) rest (event_length * (n + length vs)) l
+    let l : length (take (event_length * n) journal ++ encode_events position vs) ≡ event_length * (n + length vs) =
+    simp length-append (omega (arith, length-take-le (event_length * n) journal room, events_length position vs)) in
+    rw (← append_assoc) (take_at (take (event_length * n) journal ++ encode_events position vs) _ (event_length * (n + length vs)) l)
 
 -- in a scan, after n calls
 module _ (blocks : List Block) (told : Told) (state report journal : List ℕ) (sized : length state ≡ record_length * length blocks)
@@ -75,8 +66,8 @@ module _ (blocks : List Block) (told : Told) (state report journal : List ℕ) (
 scan_encoded : (image state : List ℕ) (g : Given) → Bytes g.told.frame → Held image state → (v : Verdict) → scan_verdict image state g ≡ v
     → (bytes : List ℕ) (events : List Posted) → Encodes bytes events
     → Encodes (with_bytes bytes (result_by v image state g).answer (result_by v image state g)) (with_events events (result_by v image state g).answer (result_by v image state g))
-scan_encoded image state g b s (Failed number place) e bytes events x = x
-scan_encoded image state g b s Passed e bytes events x =
+scan_encoded image state g b s (Err refusal) e bytes events x = x
+scan_encoded image state g b s (Ok u) e bytes events x =
     let blocks = blocks_of image in
     let reported = ((verify_passes blocks state g.told g.report g.journal).given_fits e).report_sized in
     let own = calls_encoded blocks g.told state g.report g.journal s.sized reported b s.fit (length blocks) (omega arith) in

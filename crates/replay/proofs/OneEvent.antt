@@ -1,18 +1,10 @@
 -- One event more: two scans, of which the first writes it and the second settles its block, while every other block is held at rest; and so all events of a journal. For the theorem that an
 -- accepted journal is written.
-use Prim.Native.Nat.{ℕ, zero, suc, ◌-◌, ◌<◌}
-use native.Mathlib.Decide.{ℕ_discrete, dec_lt}
-use native.Mathlib.Omega.{arith}
-use mathlib.Core.Bool.{Bool, true, false, cond}
-use mathlib.Core.List.{List, [], ◌∷◌, ◌++◌, append-nil, append_assoc}
-use mathlib.Core.Logic.{◌≢◌}
-use mathlib.Core.Option.{Option, none, some}
-use mathlib.Core.Path.{◌≡◌, refl, ap, sym, ◌∙◌, subst}
-use lib.Dec.{eqb}
-use lib.ListN.{length}
-use borrow.Author.Tests.{eq-eqb, ne_eqb}
+use Rattle.std.proofs.Common.{◌≡◌, ℕ, zero, suc, ◌-◌, ◌<◌, ◌≢◌, Bool, true, cond, eqb, List, [], ◌∷◌, ◌++◌, length, Ok, refl, ap, sym, ◌∙◌, subst, arith, append-nil, append_assoc, eq-eqb, ne_eqb}
+use Rattle.std.proofs.Math.Decide.{ℕ_discrete, dec_lt}
+use Rattle.std.proofs.Math.Logic.{by_cases}
+use Rattle.std.proofs.Math.Option.{Option, none, some}
 use Rattle.table.specs.Blocks.{blocks_of}
-use Rattle.table.specs.declared.check.Checked.TheVariants.{Blocks}
 use Rattle.layout.specs.EventLayout.{events_at}
 use Rattle.layout.specs.declared.event.Posted.{Posted}
 use Rattle.layout.proofs.Fits.{All, nil, cons, EntryFits, EventFits}
@@ -20,7 +12,7 @@ use Rattle.layout.proofs.EventLaws.{at_here, at_elsewhere}
 use Rattle.block.specs.Entry.{entry_fits}
 use Rattle.block.specs.Turns.{open_after}
 use Rattle.block.specs.Call.{Outcome}
-use Rattle.block.specs.declared.entry.Entry.{Entry}
+use Rattle.block.specs.Entry.{Entry}
 use Rattle.block.proofs.TurnLaws.{Turn, turn_cases}
 use Rattle.engine.specs.Fresh.{fresh_of}
 use Rattle.run.specs.Scans.{Scans, ◌and_then◌, FramesAreBytes, journal_of}
@@ -59,7 +51,7 @@ pub record Rests (image buffer : List ℕ) (h : Scans) (jobs : OpenJobs) : Type 
   pub accepted : EachAccepted image buffer h
   pub rests : (k : ℕ) → k < length (blocks_of image) → record_at image buffer h k ≡ at_rest (kind_at image buffer k) (jobs (suc k))
 
-module _ (image buffer : List ℕ) (n : ℕ) (fresh : (fresh_of image buffer).answer ≡ Blocks n) (bare : NoWires (blocks_of image)) where
+module _ (image buffer : List ℕ) (n : ℕ) (fresh : (fresh_of image buffer).answer ≡ Ok n) (bare : NoWires (blocks_of image)) where
   abbrev count : ℕ
   count = length (blocks_of image)
 
@@ -69,11 +61,7 @@ module _ (image buffer : List ℕ) (n : ℕ) (fresh : (fresh_of image buffer).an
   -- a position is a block's or no block's
   by_position : (Q : ℕ → Type 0) → ((j : ℕ) → j < count → Q (suc j)) → ((p : ℕ) → ((j : ℕ) → j < count → p ≢ suc j) → Q p) → (p : ℕ) → Q p
   by_position Q f g zero = g 0 (λ j l e. omega arith)
-  by_position Q f g (suc j) = by (dec_lt j count)
-    where
-      by : Dec (j < count) → Q (suc j)
-      by (yes a) = f j a
-      by (no a) = g (suc j) (λ i b e. a (omega arith))
+  by_position Q f g (suc j) = by_cases (dec_lt j count) (f j) (λ a. g (suc j) (λ i b e. a (omega arith)))
 
   -- event e, of the block at index k, after scans that leave the blocks at rest
   module _ (h : Scans) (jobs : OpenJobs) (st : Rests image buffer h jobs) (e : Posted) (fits : EventFits e.event) (k : ℕ) (own : e.position ≡ suc k) (l : k < count)
@@ -95,11 +83,7 @@ module _ (image buffer : List ℕ) (n : ℕ) (fresh : (fresh_of image buffer).an
 
     -- what holds of both entries holds of each
     of_moving : (Q : Entry → Type 0) → Q (turn_entry t) → ((j : ℕ) → Q (hold_entry (jobs (suc j)))) → (j : ℕ) → Q (moving j)
-    of_moving Q a b j = by (ℕ_discrete j k)
-      where
-        by : Dec (j ≡ k) → Q (moving j)
-        by (yes s) = subst Q (sym (ap moving s ∙ moving_own)) a
-        by (no s) = subst Q (sym (moving_other j s)) (b j)
+    of_moving Q a b j = by_cases (ℕ_discrete j k) (λ s. subst Q (sym (ap moving s ∙ moving_own)) a) (λ s. subst Q (sym (moving_other j s)) (b j))
 
     first : Scanned image buffer h moving
     first =
@@ -160,13 +144,13 @@ module _ (image buffer : List ℕ) (n : ℕ) (fresh : (fresh_of image buffer).an
     silent : written image buffer one (scan_with count settling) second.count ≡ []
     silent =
         none_at_all _
-        (by_position (λ p. events_at p (written image buffer one (scan_with count settling) second.count) ≡ []) (λ j inside. by j inside (ℕ_discrete j k)) second.others)
-      where
-        by : (j : ℕ) → j < count → Dec (j ≡ k) → events_at (suc j) (written image buffer one (scan_with count settling) second.count) ≡ []
-        by j inside (yes s) =
-            subst (λ (i : ℕ). events_at (suc i) (written image buffer one (scan_with count settling) second.count) ≡ []) (sym s)
-            (second.events k l ∙ ap (λ (x : Outcome). x.events) own_settled ∙ made.silent)
-        by j inside (no o) = second.events j inside ∙ ap (λ (x : Outcome). x.events) (other_settled j inside o ∙ hold_call (kind j) (jobs (suc j)))
+        (by_position (λ p. events_at p (written image buffer one (scan_with count settling) second.count) ≡ [])
+        (λ j inside.
+        second.events j inside
+        ∙ by_cases (ℕ_discrete j k)
+        (λ s. rw s (ap (λ (x : Outcome). x.events) own_settled ∙ made.silent))
+        (λ o. ap (λ (x : Outcome). x.events) (other_settled j inside o ∙ hold_call (kind j) (jobs (suc j)))))
+        second.others)
 
     journal_grows : journal_of image buffer two ≡ journal_of image buffer h ++ (e ∷ [])
     journal_grows = second.journal ∙ rw (silent, append-nil) (first.journal ∙ ap (λ (x : List Posted). journal_of image buffer h ++ x) writes)
@@ -176,15 +160,12 @@ module _ (image buffer : List ℕ) (n : ℕ) (fresh : (fresh_of image buffer).an
         record {
           framed = second.framed;
           accepted = and_scan (and_scan st.accepted first.count first.accepted) second.count second.accepted;
-          rests = λ j inside. by j inside (ℕ_discrete j k);
+          rests = λ j inside.
+              second.records j inside
+              ∙ by_cases (ℕ_discrete j k)
+              (λ s. rw (s, own_open) (ap (λ (x : Outcome). x.next) own_settled ∙ made.settles))
+              (λ o. rw (other_open j inside o) (ap (λ (x : Outcome). x.next) (other_settled j inside o ∙ hold_call (kind j) (jobs (suc j)))));
         }
-      where
-        by : (j : ℕ) → j < count → Dec (j ≡ k) → record_at image buffer two j ≡ at_rest (kind j) (opened_by e jobs (suc j))
-        by j inside (yes s) =
-            subst (λ (i : ℕ). record_at image buffer two i ≡ at_rest (kind i) (opened_by e jobs (suc i))) (sym s)
-            (second.records k l ∙ ap (λ (x : Outcome). x.next) own_settled ∙ made.settles ∙ sym (ap (at_rest (kind k)) own_open))
-        by j inside (no o) =
-            second.records j inside ∙ ap (λ (x : Outcome). x.next) (other_settled j inside o ∙ hold_call (kind j) (jobs (suc j))) ∙ sym (ap (at_rest (kind j)) (other_open j inside o))
 
   -- scans that write events after others
   pub record Grown (h : Scans) (es : List Posted) : Type 0 where
@@ -195,8 +176,7 @@ module _ (image buffer : List ℕ) (n : ℕ) (fresh : (fresh_of image buffer).an
 
   -- an event of which none is bad is good
   good_first : (b : Bool) (x : Option ℕ) (m : ℕ) → cond b x (some m) ≡ none → b ≡ true
-  good_first true x m h = refl
-  good_first false x m h = some_not_none h
+  good_first b x m h = grind (arith, some_not_none)
 
   pub all_events : (m : ℕ) {es : List Posted} → All (λ e. EventFits e.event) es → (h : Scans) (jobs : OpenJobs) → Rests image buffer h jobs
       → first_bad (blocks_of image) jobs m es ≡ none → Grown h es

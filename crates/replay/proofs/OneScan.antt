@@ -1,17 +1,9 @@
 -- One scan more over a table without wires, with any entries in form: it is accepted, and for each block it is the call with that block's own entry. It rests on the projection of a scan to
 -- the calls of its blocks, which holds of every kind. For the two scans of one event.
-use Prim.Native.Nat.{ℕ, suc, ◌*◌, ◌<◌}
-use native.Mathlib.Omega.{arith}
-use mathlib.Core.Bool.{true}
-use mathlib.Core.List.{List, [], ◌++◌}
-use mathlib.Core.Logic.{◌≢◌}
-use mathlib.Core.Path.{◌≡◌, refl, ap, sym, ◌∙◌, subst}
-use lib.ListN.{length, replicate, length-replicate}
-use Rattle.table.specs.Blocks.{Block, blocks_of, block_at, config_at}
-use Rattle.table.specs.declared.blocks.BlockConfig.{BlockConfig}
-use Rattle.table.specs.declared.check.Checked.TheVariants.{Blocks}
-use Rattle.table.specs.declared.place.Verdict.{Verdict}
-use Rattle.table.specs.declared.place.Verdict.TheVariants.{Passed}
+use Rattle.std.proofs.Common.{◌≡◌, ℕ, suc, ◌*◌, ◌<◌, ◌≢◌, true, List, [], ◌++◌, length, replicate, Ok, refl, ap, sym, ◌∙◌, subst, arith}
+use Rattle.std.proofs.lemmas.List.{length-replicate}
+use Rattle.table.specs.Blocks.{Block, BlockConfig, from_frame, blocks_of, block_at, config_at}
+use Rattle.refusal.specs.Refusal.{Verdict}
 use Rattle.layout.specs.Buffer.{report_length, event_length}
 use Rattle.layout.specs.EventLayout.{decode_events, events_at}
 use Rattle.layout.specs.declared.event.Posted.{Posted}
@@ -22,13 +14,12 @@ use Rattle.block.specs.BlockInvariant.{seen_call}
 use Rattle.block.specs.declared.record.Flags.{Flags}
 use Rattle.block.specs.declared.record.Record.{Record}
 use Rattle.block.specs.declared.entry.Inputs.{Inputs}
-use Rattle.block.specs.declared.entry.Entry.{Entry}
+use Rattle.block.specs.Entry.{Entry}
 use Rattle.engine.specs.Fresh.{fresh_of}
 use Rattle.engine.specs.Inputs.{inputs_of}
 use Rattle.engine.specs.Serve.{record_in, entry_in}
 use Rattle.engine.specs.Scan.{ScanResult}
 use Rattle.engine.specs.ScanAccepted.{GivenFits}
-use Rattle.engine.specs.declared.scan.Scanned.TheVariants.{Events}
 use Rattle.engine.proofs.FreshLaws.{FreshMade, fresh_made}
 use Rattle.engine.proofs.ServedLaws.{buffers_at}
 use Rattle.engine.proofs.ScanAccepted.{verify_passes}
@@ -41,7 +32,7 @@ use Rattle.replay.proofs.Moves.{called_with}
 use Rattle.replay.proofs.Frames.{frame_of, frame_length, frame_bytes, frame_entry, frame_form}
 
 -- the inputs of a block without wires are the frame's own bits
-unwired : (b : BlockConfig) (flags : ℕ → Flags) (bits : Inputs) → b.start.position ≡ 0 → b.abort.position ≡ 0 → inputs_of b flags bits ≡ bits
+unwired : (b : BlockConfig) (flags : ℕ → Flags) (bits : Inputs) → b.start ≡ from_frame → b.abort ≡ from_frame → inputs_of b flags bits ≡ bits
 unfolding inputs_of
 unwired b flags bits s a = rw (s, a)
 
@@ -71,13 +62,13 @@ module _ (image buffer : List ℕ) where
   pub record Scanned (h : Scans) (f : ℕ → Entry) : Type 0 where
     pub count : ℕ
     pub framed : FramesAreBytes (h and_then scan_with (length blocks) f)
-    pub accepted : (result_of image buffer h (scan_with (length blocks) f)).answer ≡ Events count
+    pub accepted : (result_of image buffer h (scan_with (length blocks) f)).answer ≡ Ok count
     pub records : (k : ℕ) → k < length blocks → record_at (h and_then scan_with (length blocks) f) k ≡ (called_with (kind_at k) (f k) (record_at h k)).next
     pub events : (k : ℕ) → k < length blocks → events_at (suc k) (written h (scan_with (length blocks) f) count) ≡ (called_with (kind_at k) (f k) (record_at h k)).events
     pub others : (p : ℕ) → ((k : ℕ) → k < length blocks → p ≢ suc k) → events_at p (written h (scan_with (length blocks) f) count) ≡ []
     pub journal : journal_of image buffer (h and_then scan_with (length blocks) f) ≡ journal_of image buffer h ++ written h (scan_with (length blocks) f) count
 
-  module _ (n : ℕ) (fresh : (fresh_of image buffer).answer ≡ Blocks n) (bare : NoWires blocks) (h : Scans) (framed : FramesAreBytes h)
+  module _ (n : ℕ) (fresh : (fresh_of image buffer).answer ≡ Ok n) (bare : NoWires blocks) (h : Scans) (framed : FramesAreBytes h)
       (f : ℕ → Entry) (fits : (k : ℕ) → EntryFits (f k)) (form : (k : ℕ) → entry_fits (f k) ≡ true) where
     abbrev g : Given
     g = scan_with (length blocks) f
@@ -102,7 +93,7 @@ module _ (image buffer : List ℕ) where
 
     -- it passes its checks
     abbrev result : ScanResult
-    result = result_by Passed image state g
+    result = result_by (Ok tt) image state g
 
     result_is : result_of image buffer h g ≡ result
     result_is =

@@ -1,15 +1,10 @@
 -- Over a table without wires a journal is accepted exactly when some list of accepted scans from a fresh state writes it; over any table the journal of a list of scans is accepted:
 -- specs/Written.antt. One way is built from two scans an event; the other is the run promise. For the reader of request 6/14.
-use Prim.Native.Nat.{ℕ, ◌*◌, ◌<◌}
-use native.Mathlib.Omega.{arith}
-use mathlib.Core.List.{List, [], append-nil}
-use mathlib.Core.Path.{◌≡◌, refl, ap, sym, ◌∙◌}
-use lib.ListN.{length, replicate}
+use Rattle.std.proofs.Common.{◌≡◌, ℕ, ◌*◌, ◌<◌, List, [], length, Ok, refl, ap, sym, ◌∙◌, arith, append-nil}
 use Rattle.words.specs.Word.{Bytes}
 use Rattle.table.specs.Blocks.{block_in, blocks_of}
-use Rattle.table.specs.declared.check.Checked.TheVariants.{Blocks}
 use Rattle.table.proofs.AcceptedLaws.{accepted_blocks, accepted_block}
-use Rattle.layout.specs.Buffer.{record_length, event_length}
+use Rattle.layout.specs.Buffer.{event_length}
 use Rattle.layout.specs.EventLayout.{decode_events}
 use Rattle.layout.specs.declared.event.Posted.{Posted}
 use Rattle.layout.proofs.EventLaws.{encode_posted, encode_length, decode_posted, journal_fits, journal_back}
@@ -18,24 +13,25 @@ use Rattle.engine.specs.Fresh.{fresh_of}
 use Rattle.engine.specs.Serve.{record_in}
 use Rattle.engine.proofs.FreshLaws.{fresh_made, zeros_fresh}
 use Rattle.run.specs.Scans.{Scans, none, FramesAreBytes, no_scan, state_from, state_after, journal_from, journal_of}
-use Rattle.run.proofs.RunInvariant.{run_invariant}
+use Rattle.run.proofs.RunInvariant.{fresh_is, run_invariant}
 use Rattle.journal.specs.Allowed.{Allowed}
 use Rattle.journal.specs.Check.{none_open, first_bad, event_count, events_of, check_journal_of}
-use Rattle.journal.specs.declared.check.JournalChecked.TheVariants.{Events}
 use Rattle.journal.proofs.CheckIsExact.{check_is_exact}
 use Rattle.journal.proofs.AnswerLaws.{passes_accepted, accepted_passes}
 use Rattle.replay.specs.Written.{NoWires, no_scan as none_accepted, journal_bytes, Written, AcceptedIsWritten, ScansAreAccepted, BytesAreEvents, ZeroSlotsAreNoWires}
 use Rattle.replay.proofs.JournalBytes.{list_encoded}
 use Rattle.replay.proofs.OneEvent.{Rests, all_events}
 
-module _ (image buffer : List ℕ) (n : ℕ) (fresh : (fresh_of image buffer).answer ≡ Blocks n) where
+module _ (image buffer : List ℕ) (n : ℕ) (fresh : (fresh_of image buffer).answer ≡ Ok n) where
   -- every block of a fresh state is at rest with no job open
   fresh_rests : Rests image buffer none none_open
   unfolding state_from
   fresh_rests =
-      let made = fresh_made image buffer n fresh in
-      let zeros : (fresh_of image buffer).state ≡ replicate (record_length * length (blocks_of image)) 0 = made.zeros ∙ ap (λ (l : ℕ). replicate l 0) made.sized in
-      record { framed = no_scan; accepted = none_accepted; rests = λ k l. rw zeros (zeros_fresh (length (blocks_of image)) k) }
+      record {
+        framed = no_scan;
+        accepted = none_accepted;
+        rests = λ k l. rw (fresh_is image buffer n (fresh_made image buffer n fresh)) (zeros_fresh (length (blocks_of image)) k);
+      }
 
   -- of the bytes that a list of scans wrote: how many events, and which
   module _ (scans : Scans) (framed : FramesAreBytes scans) where
@@ -62,7 +58,7 @@ module _ (image buffer : List ℕ) (n : ℕ) (fresh : (fresh_of image buffer).an
         let run = run_invariant image buffer n fresh scans framed in
         record { turns = λ k l. (open_job (record_in (state_after image buffer scans) k), (run.blocks k l).turns); positions = run.positions }
 
-    accepted : check_journal_of image bytes ≡ Events (event_count bytes)
+    accepted : check_journal_of image bytes ≡ Ok (event_count bytes)
     accepted =
         passes_accepted image bytes n (fresh_made image buffer n fresh).table
         (record {
@@ -70,7 +66,7 @@ module _ (image buffer : List ℕ) (n : ℕ) (fresh : (fresh_of image buffer).an
           good = ap (first_bad (blocks_of image) none_open 0) events_are ∙ (check_is_exact (blocks_of image) events).accepts allowed;
         })
 
-  is_written : NoWires (blocks_of image) → (journal : List ℕ) → Bytes journal → (m : ℕ) → check_journal_of image journal ≡ Events m → Written image buffer journal
+  is_written : NoWires (blocks_of image) → (journal : List ℕ) → Bytes journal → (m : ℕ) → check_journal_of image journal ≡ Ok m → Written image buffer journal
   unfolding journal_from
   is_written bare journal b m v =
       let made = fresh_made image buffer n fresh in
@@ -89,7 +85,7 @@ bytes_are_events image buffer n fresh scans framed = events_are image buffer n f
 
 pub scans_are_accepted : ScansAreAccepted
 scans_are_accepted image buffer n fresh scans framed =
-    accepted image buffer n fresh scans framed ∙ ap Events (count_is image buffer n fresh scans framed)
+    accepted image buffer n fresh scans framed ∙ ap Ok (count_is image buffer n fresh scans framed)
 
 pub accepted_is_written : AcceptedIsWritten
 accepted_is_written image buffer journal n fresh bare b =

@@ -1,15 +1,12 @@
 -- A list of scans goes by the blocks of an accepted table alone, wherever they stand in its image: for whoever writes a table anew.
-use Prim.Native.Nat.{ℕ}
-use mathlib.Core.Path.{◌≡◌, refl, ap, ◌∙◌}
-use mathlib.Core.List.{List}
+use Rattle.std.proofs.Common.{◌≡◌, ℕ, List, Ok, refl, ap, ◌∙◌}
 use Rattle.table.specs.Check.{check_of}
 use Rattle.table.specs.Blocks.{blocks_of}
-use Rattle.table.specs.declared.check.Checked.TheVariants.{Blocks}
 use Rattle.engine.specs.Scan.{ScanResult}
 use Rattle.engine.proofs.ByBlocks.{scan_by_blocks}
 use Rattle.run.specs.Scans.{Given, Scans, none, ◌and_then◌, with_events, scan_given, state_from, result_from, journal_from}
 
-module _ (first second : List ℕ) (m n : ℕ) (one : check_of first ≡ Blocks m) (two : check_of second ≡ Blocks n) (same : blocks_of first ≡ blocks_of second) (start : List ℕ) where
+module _ (first second : List ℕ) (m n : ℕ) (one : check_of first ≡ Ok m) (two : check_of second ≡ Ok n) (same : blocks_of first ≡ blocks_of second) (start : List ℕ) where
   -- one scan more, from equal states
   next_by_blocks : (s t : List ℕ) → s ≡ t → (g : Given) → scan_given first s g ≡ scan_given second t g
   next_by_blocks s t e g =

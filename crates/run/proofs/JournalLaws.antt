@@ -1,11 +1,7 @@
 -- A journal to which the events of a call are put after those before, with no bound on how many there are: reading it back gives the events before,
 -- then those of the call. For the journal of a scan.
-use Prim.Native.Nat.{ℕ, zero, suc, ◌+◌, ◌*◌, ◌≤◌}
-use native.Mathlib.Omega.{arith}
-use mathlib.Core.List.{List, ◌++◌}
-use mathlib.Core.Path.{◌≡◌, refl, ◌∙◌}
-use lib.ListN.{length, take, drop, length-append, length-drop, take-append-drop}
-use lib.Seq.{take-append-le, drop-append-le, drop_at, length-take-le}
+use Rattle.std.proofs.Common.{◌≡◌, ℕ, zero, suc, ◌+◌, ◌*◌, ◌≤◌, List, ◌++◌, length, take, drop, refl, ◌∙◌, arith, length-append, length-drop, take-append-drop, drop_at, length-take-le}
+use Rattle.std.proofs.lemmas.List.{take-append-le, drop-append-le}
 use Rattle.layout.specs.Buffer.{event_length, put}
 use Rattle.layout.specs.EventLayout.{encode_events, decode_events}
 use Rattle.layout.proofs.Fits.{All, EventFits}
@@ -17,10 +13,9 @@ pub decode_front : (n : ℕ) (p x : List ℕ) → event_length * n ≤ length p 
 unfolding decode_events
 decode_front zero p x h = refl
 decode_front (suc n) p x h =
-    let a : drop (event_length * n) (p ++ x) ≡ drop (event_length * n) p ++ x = drop-append-le (event_length * n) p x (omega arith) in
-    let b : take event_length (drop (event_length * n) p ++ x) ≡ take event_length (drop (event_length * n) p) =
-    take-append-le event_length (drop (event_length * n) p) x (simp length-drop (omega arith)) in
-    rw (a, b, decode_front n p x (omega arith))
+    let a : event_length * n ≤ length p = omega arith in
+    let b : event_length ≤ length (drop (event_length * n) p) = simp length-drop (omega arith) in
+    rw (drop-append-le, take-append-le, decode_front n p x a)
 
 -- the events of a call, read back
 decode_call : (position : ℕ) (vs : List Event) (x : List ℕ) → All EventFits vs → decode_events (length vs) (encode_events position vs ++ x) ≡ posted position vs

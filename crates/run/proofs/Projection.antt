@@ -1,14 +1,8 @@
 -- An accepted scan over a table as a list of blocks, read off its bytes: what is seen of each block is its call by the machine. For the run promise.
-use Prim.Native.Nat.{ℕ, zero, suc, ◌*◌, ◌≤◌, ◌<◌}
-use native.Mathlib.Decide.{ℕ_discrete, dec_lt}
-use native.Mathlib.Omega.{arith}
-use mathlib.Core.Bool.{Bool, true, false, cond}
-use mathlib.Core.List.{List, [], ◌++◌, append-nil}
-use mathlib.Core.Logic.{◌≢◌}
-use mathlib.Core.Path.{◌≡◌, refl, ap, sym, ◌∙◌, subst}
-use lib.Dec.{ltb}
-use lib.ListN.{length}
-use borrow.Author.Tests.{ltb-true, ltb-false}
+use Rattle.std.proofs.Common.{◌≡◌, ℕ, zero, suc, ◌*◌, ◌<◌, ◌≤◌, ◌≢◌, true, ltb, List, [], ◌++◌, length, refl, ap, sym, ◌∙◌, arith, append-nil, ltb-true, ltb-false}
+use Rattle.std.proofs.Math.Decide.{ℕ_discrete, dec_lt}
+use Rattle.std.proofs.Math.Logic.{by_cases}
+use Rattle.membership.proofs.Logic.{by_test}
 use Rattle.table.specs.Blocks.{Block, block_at, config_at}
 use Rattle.layout.specs.Buffer.{record_length, entry_length, report_length, event_length, part}
 use Rattle.layout.specs.RecordLayout.{decode_record, record_form}
@@ -72,15 +66,15 @@ module _ (blocks : List Block) (told : Told) (state report journal : List ℕ) w
     -- a flag is this scan's for an earlier block, and the last scan's for a later one or the block itself
     flags_are : (k : ℕ) → k < length blocks → (i : ℕ) → flags_in (state_to k) i ≡ flags_seen k state (state_to (length blocks)) i
     unfolding flags_seen
-    flags_are k l i = go (ltb i k) refl
-      where
-        go : (b : Bool) → ltb i k ≡ b → flags_in (state_to k) i ≡ flags_in (cond b (state_to (length blocks)) state) i
-        go true e =
-            let h : i < k = ltb-true i k e in
-            ap (λ (p : List ℕ). (decode_record p).flags)
-            (laws.state_earlier blocks told state report journal sized k i (omega arith) h
-            ∙ sym (laws.state_earlier blocks told state report journal sized (length blocks) i (omega arith) (omega arith)))
-        go false e = ap (λ (p : List ℕ). (decode_record p).flags) (laws.state_later blocks told state report journal sized k i (omega arith) (ltb-false i k e))
+    flags_are k l i =
+        by_test (ltb i k)
+        (λ e.
+        let h : i < k = ltb-true i k e in
+        rw e
+        (ap (λ (p : List ℕ). (decode_record p).flags)
+        (laws.state_earlier blocks told state report journal sized k i (omega arith) h
+        ∙ sym (laws.state_earlier blocks told state report journal sized (length blocks) i (omega arith) (omega arith)))))
+        (λ e. rw e (ap (λ (p : List ℕ). (decode_record p).flags) (laws.state_later blocks told state report journal sized k i (omega arith) (ltb-false i k e))))
 
     module _ (k : ℕ) (l : k < length blocks) where
       -- the inputs, as they are seen in the bytes
@@ -110,13 +104,10 @@ module _ (blocks : List Block) (told : Told) (state report journal : List ℕ) w
     -- and those with a block's position are those of its call
     pub events_one : (k n : ℕ) → n ≤ length blocks → k < n → events_at (suc k) (events_to n) ≡ (outcome_at k).events
     events_one k zero h l = absurd (omega arith)
-    events_one k (suc n) h l = go (ℕ_discrete k n) (λ m. events_one k n (omega arith) m)
-      where
-        go : Dec (k ≡ n) → (k < n → events_at (suc k) (events_to n) ≡ (outcome_at k).events) → events_at (suc k) (events_to (suc n)) ≡ (outcome_at k).events
-        go (yes e) ih =
-            let before : events_at (suc n) (events_to n) ≡ [] = events_none (suc n) n (omega arith) (λ j l q. omega arith) in
-            rw (e, events_next n h, at_append, before, at_own)
-        go (no m) ih = rw (events_next n h, at_append, at_other (suc k) (suc n) (outcome_at n).events (λ e. m (omega arith)), append-nil) (ih (omega arith))
+    events_one k (suc n) h l =
+        by_cases (ℕ_discrete k n)
+        (λ e. rw (e, events_next n h, at_append, events_none (suc n) n (omega arith) (λ j l q. omega arith), at_own))
+        (λ m. rw (events_next n h, at_append, at_other (suc k) (suc n) (outcome_at n).events (λ e. m (omega arith)), append-nil) (events_one k n (omega arith) (omega arith)))
 
     pub record_is : (k : ℕ) → k < length blocks → record_in (state_to (length blocks)) k ≡ (outcome_at k).next
     record_is k l =
@@ -155,11 +146,10 @@ module _ (blocks : List Block) (told : Told) (state report journal : List ℕ) w
 
     -- the records that the scan leaves fit their bytes too
     pub still_fits : (j : ℕ) → RecordFits (record_in (state_to (length blocks)) j)
-    still_fits j = go (dec_lt j (length blocks))
-      where
-        go : Dec (j < length blocks) → RecordFits (record_in (state_to (length blocks)) j)
-        go (yes l) = subst RecordFits (sym (record_is j l)) (outcome_fits j l).next
-        go (no m) = subst RecordFits (sym (ap decode_record (laws.state_later blocks told state report journal sized (length blocks) j (omega arith) (omega arith)))) (fit j)
+    still_fits j =
+        by_cases (dec_lt j (length blocks))
+        (λ l. rw (record_is j l) (outcome_fits j l).next)
+        (λ m. rw (laws.state_later blocks told state report journal sized (length blocks) j (omega arith) (omega arith)) (fit j))
 
     pub still_form : (j : ℕ) → j < length blocks → record_form (part record_length j (state_to (length blocks))) ≡ true
     still_form j l = ap record_form (laws.state_earlier blocks told state report journal sized (length blocks) j (omega arith) l) ∙ encode_form (outcome_at j).next

@@ -1,6 +1,6 @@
 -- The lists of scans of specs/RunExamples, WireExamples, SelfWireExamples and CountedTimeExamples, computed from the bytes of the table, the lent buffer and the
 -- frames: for the reader, so that the run promise is seen not to be empty.
-use mathlib.Core.Path.{refl}
+use Rattle.std.proofs.Common.{refl}
 use Rattle.kind.specs.Kind.{is_kind, is_edge, can_abort, has_abort, has_time_limit, has_time_out, is_continuous}
 use Rattle.clock.specs.Clock.{since, tick, past, past_limit, past_time_out}
 use Rattle.words.specs.Word.{number, bytes, all_zero}
@@ -8,9 +8,9 @@ use Rattle.table.specs.Blocks.{blocks_in, block_in}
 use Rattle.table.specs.Header.{header_check}
 use Rattle.table.specs.Walk.{unmet, walk_in, walked}
 use Rattle.table.specs.Chain.{position_from}
-use Rattle.table.specs.Record.{tag_among, record_check, records_from, records_check}
+use Rattle.table.specs.Record.{tag_among, record_check, records_check}
 use Rattle.table.specs.Tag.{tag_char, spaces, padded, tag_text, tag_form, same_bytes}
-use Rattle.table.specs.Spare.{spares_from, spares_check}
+use Rattle.table.specs.Spare.{spares_check}
 use Rattle.table.specs.Check.{verdict_of, check_of}
 use Rattle.layout.specs.RecordLayout.{encode_record, decode_record, record_form, sound_bytes}
 use Rattle.layout.specs.EntryLayout.{encode_pieces, encode_entry, decode_entry, entry_form, entry_bytes}
@@ -48,8 +48,8 @@ unfolding image buffer starts is_done damaged fails rests is_late is_aborted wor
     self_image self_buffer self_starts aborts self_scans
     clock_image clock_buffer clock_running clock_scans
     fresh_of state_from journal_from history_from scan_of scan_blocks verify_of state_sound frame_form served_to served call_in inputs_of flags_seen
-    check_of verdict_of header_check walked walk_in unmet records_check records_from record_check tag_among tag_form tag_text tag_char padded
-    spaces same_bytes spares_check spares_from all_zero blocks_in block_in position_from
+    check_of verdict_of header_check walked walk_in unmet records_check record_check tag_among tag_form tag_text tag_char padded
+    spaces same_bytes spares_check all_zero blocks_in block_in position_from
     sound_bytes record_form entry_bytes entry_form decode_entry decode_record encode_entry encode_pieces encode_record encode_report encode_events
     encode_event decode_events decode_event events_at number bytes
     sound zeroed flags_fit code_sound request_sound step_sound times_sound entry_fits pieces_fit

@@ -1,15 +1,10 @@
 -- The run promise, demand 3: every block's history in a list of scans, read off the bytes, is one that the machine made, so that the promise of one
 -- block holds of it.
-use Prim.Native.Nat.{ℕ, suc, ◌*◌, ◌<◌}
-use native.Mathlib.Omega.{arith}
-use mathlib.Core.Bool.{true}
-use mathlib.Core.List.{List, []}
-use mathlib.Core.Logic.{◌≢◌}
-use mathlib.Core.Path.{◌≡◌, refl, ap, sym, ◌∙◌, subst}
-use lib.ListN.{length, replicate, length-replicate}
+use Rattle.std.proofs.Common.{◌≡◌, ℕ, suc, ◌*◌, ◌<◌, ◌≢◌, true, List, [], length, replicate, Result, Ok, refl, sym, subst, arith}
+use Rattle.std.proofs.lemmas.List.{length-replicate}
 use Rattle.table.specs.Blocks.{blocks_of, block_at}
 use Rattle.table.specs.Check.{check_of}
-use Rattle.table.specs.declared.check.Checked.TheVariants.{Blocks}
+use Rattle.refusal.specs.declared.Refusal.{Refusal}
 use Rattle.table.proofs.AcceptedLaws.{accepted_blocks, accepted_kind}
 use Rattle.layout.specs.Buffer.{record_length, part}
 use Rattle.layout.specs.RecordLayout.{record_form, sound_bytes}
@@ -23,7 +18,6 @@ use Rattle.block.proofs.BlockInvariant.{counts_in_step as call_counts}
 use Rattle.engine.specs.Serve.{record_in}
 use Rattle.engine.specs.Fresh.{fresh_of}
 use Rattle.engine.specs.Scan.{ScanResult}
-use Rattle.engine.specs.declared.scan.Scanned.{Scanned}
 use Rattle.run.specs.Scans.{Scans, Given, FramesAreBytes, no_scan, and_scan, seen_at, with_events, with_seen, state_from, result_from, journal_from, history_from, state_after, result_of, history_of, none, ◌and_then◌}
 use Rattle.run.specs.RunInvariant.{BlockRun, RunInvariantHolds, ScansCountInStep, StateFitsAfter, NextIsAccepted}
 use Rattle.run.proofs.FitsLaws.{fresh_fits}
@@ -40,7 +34,7 @@ events_from image start k (h and_then g) =
     events_by image (state_from image start h) g k r.answer r (history_from image start k h) (journal_from image start h) (events_from image start k h)
 
 -- a list of scans over an accepted table, from a state in form
-module _ (image start : List ℕ) (n : ℕ) (table : check_of image ≡ Blocks n) (first : Held image start) where
+module _ (image start : List ℕ) (n : ℕ) (table : check_of image ≡ Ok n) (first : Held image start) where
   result_is : (h : Scans) (g : Given)
       → result_from image start h g ≡ result_by (scan_verdict image (state_from image start h) g) image (state_from image start h) g
   result_is h g = scan_is image (state_from image start h) g n table
@@ -72,8 +66,8 @@ module _ (image start : List ℕ) (n : ℕ) (table : check_of image ≡ Blocks n
 
 -- from fresh
 module _ (image buffer : List ℕ) (n : ℕ) (m : FreshMade image buffer n) where
-  fresh_is : (fresh_of image buffer).state ≡ replicate (record_length * length (blocks_of image)) 0
-  fresh_is = m.zeros ∙ ap (λ (m : ℕ). replicate m 0) m.sized
+  pub fresh_is : (fresh_of image buffer).state ≡ replicate (record_length * length (blocks_of image)) 0
+  fresh_is = rw (m.zeros, m.sized)
 
   pub fresh_held : Held image (fresh_of image buffer).state
   fresh_held =
@@ -139,7 +133,7 @@ unfolding state_from history_from
 counts_in_step image buffer n e scans g x m answer k l to =
     let kind = (block_at (blocks_of image) k).kind in
     let result = result_of image buffer scans g in
-    let history = subst (λ (a : Scanned). MachineHistory kind (with_seen image k (history_of image buffer k scans) (state_after image buffer scans) g a result)) answer
+    let history = subst (λ (a : Result ℕ Refusal). MachineHistory kind (with_seen image k (history_of image buffer k scans) (state_after image buffer scans) g a result)) answer
     (kept_after image buffer n (fresh_made image buffer n e) k l x).made in
     call_counts kind (history_of image buffer k scans) (seen_at image k (state_after image buffer scans) g result m) history to
 

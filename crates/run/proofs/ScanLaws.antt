@@ -1,18 +1,11 @@
 -- One scan over an accepted table, accepted or refused: it keeps the state buffer in form, and of each block it keeps that the history read off the
 -- bytes is one that the machine made. For the list of scans.
-use Prim.Native.Nat.{ℕ, suc, ◌*◌, ◌<◌}
-use native.Mathlib.Omega.{arith}
-use mathlib.Core.Bool.{true}
-use mathlib.Core.List.{List, []}
-use mathlib.Core.Logic.{◌≢◌}
-use mathlib.Core.Path.{◌≡◌, refl, ap, sym, ◌∙◌, subst}
-use lib.ListN.{length}
+use Rattle.std.proofs.Common.{◌≡◌, ℕ, suc, ◌*◌, ◌<◌, ◌≢◌, true, List, [], length, Result, Ok, Err, refl, ap, sym, ◌∙◌, subst, arith}
 use Rattle.words.specs.Word.{Bytes}
 use Rattle.table.specs.Blocks.{blocks_of, block_at}
 use Rattle.table.specs.Check.{check_of}
-use Rattle.table.specs.declared.place.Verdict.{Verdict}
-use Rattle.table.specs.declared.place.Verdict.TheVariants.{Passed, Failed}
-use Rattle.table.specs.declared.check.Checked.TheVariants.{Blocks}
+use Rattle.refusal.specs.Refusal.{Verdict}
+use Rattle.refusal.specs.declared.Refusal.{Refusal}
 use Rattle.layout.specs.Buffer.{record_length, entry_length, part}
 use Rattle.layout.specs.RecordLayout.{record_form}
 use Rattle.layout.specs.EventLayout.{events_at}
@@ -27,8 +20,6 @@ use Rattle.engine.specs.Verify.{verify_of}
 use Rattle.engine.specs.Serve.{record_in, entry_in}
 use Rattle.engine.specs.Scan.{ScanResult, scan_by, scan_blocks, scan_of}
 use Rattle.engine.specs.ScanAccepted.{GivenFits}
-use Rattle.engine.specs.declared.scan.Scanned.{Scanned}
-use Rattle.engine.specs.declared.scan.Scanned.TheVariants.{Events, Refused}
 use Rattle.engine.proofs.ServedLaws.{state_length}
 use Rattle.engine.proofs.ScanAccepted.{verify_passes}
 use Rattle.run.specs.Scans.{Given, with_events, with_seen}
@@ -52,26 +43,26 @@ scan_verdict image state g = verify_of (blocks_of image) state g.told g.report g
 abbrev pub result_by : Verdict → List ℕ → List ℕ → Given → ScanResult
 result_by v image state g = scan_by v (blocks_of image) state g.told g.report g.journal
 
-pub scan_is : (image state : List ℕ) (g : Given) (n : ℕ) → check_of image ≡ Blocks n
+pub scan_is : (image state : List ℕ) (g : Given) (n : ℕ) → check_of image ≡ Ok n
     → scan_of image state g.told g.report g.journal ≡ result_by (scan_verdict image state g) image state g
 unfolding scan_of scan_blocks
 scan_is image state g n e = rw e
 
 -- of any scan: the events at a block's position in the journal are those of its history
-pub events_by : (image state : List ℕ) (g : Given) (k : ℕ) (answer : Scanned) (r : ScanResult) (h : History) (ps : List Posted) → events_at (suc k) ps ≡ events_of h
+pub events_by : (image state : List ℕ) (g : Given) (k : ℕ) (answer : Result ℕ Refusal) (r : ScanResult) (h : History) (ps : List Posted) → events_at (suc k) ps ≡ events_of h
     → events_at (suc k) (with_events ps answer r) ≡ events_of (with_seen image k h state g answer r)
 unfolding events_of
-events_by image state g k (Events n) r h ps x = rw (at_append, x)
-events_by image state g k (Refused number place) r h ps x = x
+events_by image state g k (Ok n) r h ps x = rw (at_append, x)
+events_by image state g k (Err refusal) r h ps x = x
 
 module _ (image state : List ℕ) (g : Given) (framed : Bytes g.told.frame) (s : Held image state) where
   -- of a scan that passed checks 20 to 41
-  given : scan_verdict image state g ≡ Passed → GivenFits (blocks_of image) g.told g.report g.journal
+  given : scan_verdict image state g ≡ Ok tt → GivenFits (blocks_of image) g.told g.report g.journal
   given e = (verify_passes (blocks_of image) state g.told g.report g.journal).given_fits e
 
   pub held_by : (v : Verdict) → scan_verdict image state g ≡ v → Held image (result_by v image state g).state
-  held_by (Failed number place) e = s
-  held_by Passed e =
+  held_by (Err refusal) e = s
+  held_by (Ok u) e =
       let r = (given e).report_sized in
       record {
         sized = state_length (blocks_of image) g.told state g.report g.journal s.sized (length (blocks_of image)) (omega arith) ∙ s.sized;
@@ -82,8 +73,8 @@ module _ (image state : List ℕ) (g : Given) (framed : Bytes g.told.frame) (s :
   pub kept_by : (k : ℕ) → k < length (blocks_of image) → (v : Verdict) → scan_verdict image state g ≡ v → (h : History) → Kept image k h state
       → Kept image k (with_seen image k h state g (result_by v image state g).answer (result_by v image state g)) (result_by v image state g).state
   unfolding record_after
-  kept_by k l (Failed number place) e h x = x
-  kept_by k l Passed e h x =
+  kept_by k l (Err refusal) e h x = x
+  kept_by k l (Ok u) e h x =
       let r = (given e).report_sized in
       let kind = (block_at (blocks_of image) k).kind in
       let entry = entry_in g.told.frame k in
@@ -101,8 +92,8 @@ module _ (image state : List ℕ) (g : Given) (framed : Bytes g.told.frame) (s :
   -- no event has a position that is no block's
   pub none_by : (p : ℕ) → ((k : ℕ) → k < length (blocks_of image) → p ≢ suc k) → (v : Verdict) → scan_verdict image state g ≡ v → (ps : List Posted) → events_at p ps ≡ []
       → events_at p (with_events ps (result_by v image state g).answer (result_by v image state g)) ≡ []
-  none_by p o (Failed number place) e ps x = x
-  none_by p o Passed e ps x =
+  none_by p o (Err refusal) e ps x = x
+  none_by p o (Ok u) e ps x =
       let r = (given e).report_sized in
       let all = length (blocks_of image) in
       rw (at_append, x) (events_none (blocks_of image) g.told state g.report g.journal s.sized r framed s.fit p all (omega arith) o)

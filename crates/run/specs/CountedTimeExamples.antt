@@ -1,7 +1,7 @@
 -- A fourth list of scans over bytes, computed: elapsed is time as it is counted, and no wall clock. Document 02, 1/14: "A gap of that length between calls
 -- is now taken as none, and the time-out promise means time counted this way."
 use Rattle.std.specs.Prelude.{ℕ, true, false, List, [], ◌∷◌, ◌≡◌, replicate}
-use Rattle.table.specs.Place.{value}
+use Rattle.refusal.specs.Refusal.{value}
 use Rattle.layout.specs.Buffer.{record_length}
 use Rattle.layout.specs.EntryLayout.{encode_entry}
 use Rattle.block.specs.Record.{Executing, TimedOut}

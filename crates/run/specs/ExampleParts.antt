@@ -1,15 +1,14 @@
 -- What the computed lists of scans are made of and read by: frame entries, what each scan answered, and what each call reported.
 use Rattle.std.specs.Prelude.{ℕ, ◌*◌, Bool, List, [], ◌∷◌, ◌++◌, replicate}
 use Rattle.clock.specs.declared.Timer.{Timer}
-use Rattle.table.specs.Place.{Answer}
+use Rattle.refusal.specs.Refusal.{Answer, answer_of}
 use Rattle.layout.specs.Buffer.{report_length, event_length}
 use Rattle.layout.specs.declared.event.Posted.{Posted}
 use Rattle.block.specs.Entry.{Complete}
 use Rattle.block.specs.WorkedExamples.{entry}
 use Rattle.block.specs.History.{History, fresh, ◌then◌}
 use Rattle.block.specs.declared.entry.Piece.{Piece}
-use Rattle.block.specs.declared.entry.Entry.{Entry}
-use Rattle.engine.specs.Scan.{scan_answer}
+use Rattle.block.specs.Entry.{Entry}
 use Rattle.run.specs.Scans.{Scans, none, ◌and_then◌, Given, result_of}
 
 -- an entry that has these pieces; abort and reset reply complete
@@ -28,7 +27,7 @@ scan_on n frame =
 -- what each scan answered, in the order of the scans
 unfoldable pub answers_of : List ℕ → List ℕ → Scans → List Answer
 answers_of image buffer none = []
-answers_of image buffer (h and_then g) = answers_of image buffer h ++ (scan_answer (result_of image buffer h g).answer ∷ [])
+answers_of image buffer (h and_then g) = answers_of image buffer h ++ (answer_of (result_of image buffer h g).answer ∷ [])
 
 -- the passes and the pieces of each call, as the reports state them
 unfoldable pub passes_of : History → List ℕ

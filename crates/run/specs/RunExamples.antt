@@ -1,14 +1,13 @@
 -- A list of scans over bytes, computed: each kind of finish, a refused scan in the middle, a wire, a clock that wraps, and jobs that agree in their low four
 -- bytes. Beside the run promise, so that what it speaks of is seen to happen.
 use Rattle.std.specs.Prelude.{ℕ, ◌+◌, ◌*◌, true, false, List, [], ◌∷◌, ◌++◌, ◌≡◌, replicate}
-use Rattle.table.specs.Place.{value, refusal}
-use Rattle.table.specs.Check.{checked_answer}
+use Rattle.refusal.specs.Refusal.{value, refusal, answer_of}
 use Rattle.layout.specs.Buffer.{record_length}
 use Rattle.layout.specs.EntryLayout.{encode_entry}
 use Rattle.block.specs.Record.{Executing, TimedOut}
 use Rattle.block.specs.Event.{Start, DoneEvent, Failed, AbortedEvent, Withdrawn}
 use Rattle.block.specs.History.{timer_of, time_out_in_force}
-use Rattle.block.specs.declared.entry.Entry.{Entry}
+use Rattle.block.specs.Entry.{Entry}
 use Rattle.engine.specs.Serve.{record_in}
 use Rattle.engine.specs.Fresh.{fresh_of}
 use Rattle.block.specs.WorkedExamples.{working, complete, error}
@@ -83,7 +82,7 @@ running = none and_then starts and_then damaged and_then works
 
 -- theorem run_example, proofs/RunExamples.antt
 pub record RunExample : Type 0 where
-  pub made : checked_answer (fresh_of image buffer).answer ≡ value 2
+  pub made : answer_of (fresh_of image buffer).answer ≡ value 2
   pub answers : answers_of image buffer scans
       ≡ value 2 ∷ value 2 ∷ refusal 31 2 ∷ value 2 ∷ value 0 ∷ value 2 ∷ value 0 ∷ value 2 ∷ []
   pub journal : journal_of image buffer scans

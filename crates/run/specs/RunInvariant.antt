@@ -1,5 +1,5 @@
 -- Demand 3 of document 01, the run promise: one claim about any list of scans from fresh, refused ones included.
-use Rattle.std.specs.Prelude.{ℕ, suc, ◌+◌, ◌≤◌, ◌<◌, true, cond, List, [], ◌≢◌, ◌≡◌, eqb, length}
+use Rattle.std.specs.Prelude.{ℕ, suc, ◌+◌, ◌≤◌, ◌<◌, true, cond, List, [], Ok, ◌≢◌, ◌≡◌, eqb, length}
 use Rattle.std.proofs.Math.Option.{none}
 use Rattle.table.specs.Blocks.{blocks_of, block_at}
 use Rattle.layout.specs.Buffer.{record_length, part}
@@ -16,8 +16,6 @@ use Rattle.engine.specs.Serve.{record_in}
 use Rattle.engine.specs.Fresh.{fresh_of}
 use Rattle.run.specs.Scans.{Scans, ◌and_then◌, FramesAreBytes, Given, seen_at, state_after, result_of, journal_of, history_of}
 use Rattle.engine.specs.ScanAccepted.{StateFits, GivenFits}
-use Rattle.table.specs.declared.check.Checked.TheVariants.{Blocks}
-use Rattle.engine.specs.declared.scan.Scanned.TheVariants.{Events}
 
 module _ (image buffer : List ℕ) (scans : Scans) (k : ℕ) where
   -- the kind of the block at index k, whose position is k + 1
@@ -65,24 +63,24 @@ pub record RunInvariant (image buffer : List ℕ) (scans : Scans) : Type 0 where
 -- theorem run_invariant, proofs/RunInvariant.antt
 abbrev pub RunInvariantHolds : Type 0
 RunInvariantHolds =
-    (image buffer : List ℕ) (n : ℕ) → (fresh_of image buffer).answer ≡ Blocks n → (scans : Scans) → FramesAreBytes scans → RunInvariant image buffer scans
+    (image buffer : List ℕ) (n : ℕ) → (fresh_of image buffer).answer ≡ Ok n → (scans : Scans) → FramesAreBytes scans → RunInvariant image buffer scans
 
 -- Document 02, 1/14: "the time-out promise means time counted this way", which is no wall clock: after an accepted scan that leaves a block in Executing, its elapsed and
 -- its last reading are those of its readings in step alone; one out of step changes neither. Theorem counts_in_step, proofs/RunInvariant.antt
 abbrev pub ScansCountInStep : Type 0
 ScansCountInStep =
-    (image buffer : List ℕ) (n : ℕ) → (fresh_of image buffer).answer ≡ Blocks n → (scans : Scans) (g : Given) → FramesAreBytes (scans and_then g)
-    → (m : ℕ) → (result_of image buffer scans g).answer ≡ Events m → (k : ℕ) → k < length (blocks_of image) → (block_record image buffer (scans and_then g) k).step ≡ Executing
+    (image buffer : List ℕ) (n : ℕ) → (fresh_of image buffer).answer ≡ Ok n → (scans : Scans) (g : Given) → FramesAreBytes (scans and_then g)
+    → (m : ℕ) → (result_of image buffer scans g).answer ≡ Ok m → (k : ℕ) → k < length (blocks_of image) → (block_record image buffer (scans and_then g) k).step ≡ Executing
     → CountsInStep (seen_at image k (state_after image buffer scans) g (result_of image buffer scans g) m)
 
 -- theorem state_fits, proofs/RunInvariant.antt: after any list of scans from fresh the state buffer fits
 abbrev pub StateFitsAfter : Type 0
 StateFitsAfter =
-    (image buffer : List ℕ) (n : ℕ) → (fresh_of image buffer).answer ≡ Blocks n → (scans : Scans) → FramesAreBytes scans
+    (image buffer : List ℕ) (n : ℕ) → (fresh_of image buffer).answer ≡ Ok n → (scans : Scans) → FramesAreBytes scans
     → StateFits (blocks_of image) (state_after image buffer scans)
 
 -- theorem next_accepted, proofs/RunInvariant.antt: so that only what it is given can turn the next scan back
 abbrev pub NextIsAccepted : Type 0
 NextIsAccepted =
-    (image buffer : List ℕ) (n : ℕ) → (fresh_of image buffer).answer ≡ Blocks n → (scans : Scans) → FramesAreBytes scans → (g : Given)
-    → GivenFits (blocks_of image) g.told g.report g.journal → (m : ℕ) × ((result_of image buffer scans g).answer ≡ Events m)
+    (image buffer : List ℕ) (n : ℕ) → (fresh_of image buffer).answer ≡ Ok n → (scans : Scans) → FramesAreBytes scans → (g : Given)
+    → GivenFits (blocks_of image) g.told g.report g.journal → (m : ℕ) × ((result_of image buffer scans g).answer ≡ Ok m)

@@ -1,6 +1,7 @@
 -- Document 01, "A list of scans": the state buffer, the journal and the history of each block, read off the bytes.
-use Rattle.std.specs.Prelude.{ℕ, suc, cond, List, [], ◌++◌, ltb}
+use Rattle.std.specs.Prelude.{ℕ, suc, cond, List, [], ◌++◌, Result, Ok, Err, ltb}
 use Rattle.words.specs.Word.{Bytes}
+use Rattle.refusal.specs.declared.Refusal.{Refusal}
 use Rattle.table.specs.Blocks.{blocks_of, config_at}
 use Rattle.layout.specs.Buffer.{report_length, part}
 use Rattle.layout.specs.ReportLayout.{reported_pieces, reported_passes}
@@ -13,8 +14,6 @@ use Rattle.engine.specs.Inputs.{flags_in, inputs_of}
 use Rattle.engine.specs.Serve.{record_in, entry_in}
 use Rattle.engine.specs.Fresh.{fresh_of}
 use Rattle.engine.specs.Scan.{ScanResult, scan_of}
-use Rattle.engine.specs.declared.scan.Scanned.{Scanned}
-use Rattle.engine.specs.declared.scan.Scanned.TheVariants.{Events, Refused}
 
 -- what a scan is given beside the table and the state: "All else that a scan is given may be anything."
 pub record Given : Type 0 where
@@ -38,9 +37,9 @@ unfoldable pub flags_seen : ℕ → List ℕ → List ℕ → ℕ → Flags
 flags_seen k before after i = flags_in (cond (ltb i k) after before) i
 
 -- "The journal of the list is the events of its accepted scans, of each as many as it answered, joined in the order of the scans.": one scan more
-abbrev pub with_events : List Posted → Scanned → ScanResult → List Posted
-with_events ps (Events n) r = ps ++ decode_events n r.journal
-with_events ps (Refused number place) r = ps
+abbrev pub with_events : List Posted → Result ℕ Refusal → ScanResult → List Posted
+with_events ps (Ok n) r = ps ++ decode_events n r.journal
+with_events ps (Err refusal) r = ps
 
 -- Every scan is given the same image.
 module _ (image : List ℕ) where
@@ -58,9 +57,9 @@ module _ (image : List ℕ) where
       }
 
   -- "a refused one calls none"
-  abbrev pub with_seen : ℕ → History → List ℕ → Given → Scanned → ScanResult → History
-  with_seen k h before g (Events n) r = h then seen_at k before g r n
-  with_seen k h before g (Refused number place) r = h
+  abbrev pub with_seen : ℕ → History → List ℕ → Given → Result ℕ Refusal → ScanResult → History
+  with_seen k h before g (Ok n) r = h then seen_at k before g r n
+  with_seen k h before g (Err refusal) r = h
 
   -- what a scan from a state buffer answers and leaves
   abbrev pub scan_given : List ℕ → Given → ScanResult

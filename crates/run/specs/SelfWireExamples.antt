@@ -1,10 +1,10 @@
 -- A third list of scans over bytes, computed: a block wired to itself, and aborts wired to another block's aborted flag, as it is and inverted.
 use Rattle.std.specs.Prelude.{ℕ, ◌*◌, true, false, List, [], ◌∷◌, ◌++◌, ◌≡◌, replicate}
-use Rattle.table.specs.Place.{value}
+use Rattle.refusal.specs.Refusal.{value}
 use Rattle.layout.specs.Buffer.{record_length, event_length}
 use Rattle.layout.specs.EntryLayout.{encode_entry}
 use Rattle.block.specs.Event.{Start, AbortedEvent, Withdrawn}
-use Rattle.block.specs.declared.entry.Entry.{Entry}
+use Rattle.block.specs.Entry.{Entry}
 use Rattle.run.specs.Scans.{Scans, none, ◌and_then◌, Given, result_of, journal_of, history_of}
 use Rattle.run.specs.ExampleParts.{entry_of, scan_on, answers_of, passes_of, starts_of, at}
 

@@ -1,13 +1,12 @@
 -- A second list of scans over bytes, computed: wires of done, error and inverted busy, a time limit and several pieces, an Error shown with start
 -- false, and elapsed at its greatest. The bytes of a frame entry, of a report, of events and of the state are written out.
 use Rattle.std.specs.Prelude.{ℕ, ◌*◌, true, false, List, [], ◌∷◌, ◌++◌, ◌≡◌, replicate}
-use Rattle.table.specs.Place.{value}
-use Rattle.table.specs.Check.{checked_answer}
+use Rattle.refusal.specs.Refusal.{value, answer_of}
 use Rattle.layout.specs.Buffer.{record_length, event_length}
 use Rattle.layout.specs.EntryLayout.{encode_entry}
 use Rattle.block.specs.Record.{TimedOut}
 use Rattle.block.specs.Event.{Start, DoneEvent, Failed}
-use Rattle.block.specs.declared.entry.Entry.{Entry}
+use Rattle.block.specs.Entry.{Entry}
 use Rattle.engine.specs.Fresh.{fresh_of}
 use Rattle.block.specs.WorkedExamples.{working, complete, error}
 use Rattle.run.specs.Scans.{Scans, none, ◌and_then◌, Given, state_after, result_of, journal_of, history_of}
@@ -87,7 +86,7 @@ scans = running and_then times_out and_then restarts
 
 -- theorem wire_example, proofs/RunExamples.antt
 pub record WireExample : Type 0 where
-  pub made : checked_answer (fresh_of image buffer).answer ≡ value 4
+  pub made : answer_of (fresh_of image buffer).answer ≡ value 4
   pub entry : encode_entry cam ≡ cam_bytes
   pub answers : answers_of image buffer scans ≡ value 1 ∷ value 0 ∷ value 4 ∷ value 3 ∷ []
   pub journal : journal_of image buffer scans

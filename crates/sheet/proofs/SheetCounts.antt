@@ -10,8 +10,8 @@ use lib.Dec.{eqb}
 use lib.ListN.{length}
 use Rattle.table.specs.Check.{check_of}
 use Rattle.table.specs.Blocks.{Block, blocks_of}
-use Rattle.table.specs.declared.check.Checked.{Checked}
-use Rattle.table.specs.declared.check.Checked.TheVariants.{Blocks, Refused as TableRefused}
+use Rattle.std.specs.Prelude.{Result, Ok, Err}
+use Rattle.refusal.specs.declared.Refusal.{Refusal}
 use Rattle.layout.specs.EventLayout.{decode_events, events_at}
 use Rattle.layout.specs.declared.event.Posted.{Posted}
 use Rattle.layout.proofs.EventLaws.{at_here, at_elsewhere}
@@ -155,6 +155,6 @@ module _ (blocks : List Block) (events : List Posted) (allowed : Allowed blocks 
 pub sheet_counts : AcceptedSheetCounts
 sheet_counts image journal m accepted = by (check_of image) refl
   where
-    by : (answer : Checked) → check_of image ≡ answer → SheetCounts (blocks_of image) (decode_events m journal)
-    by (Blocks n) table = allowed_counts (blocks_of image) (decode_events m journal) (accepted_allowed image journal n table m accepted)
-    by (TableRefused number place) refused = table_not_refused image journal m number place accepted refused
+    by : (answer : Result ℕ Refusal) → check_of image ≡ answer → SheetCounts (blocks_of image) (decode_events m journal)
+    by (Ok n) table = allowed_counts (blocks_of image) (decode_events m journal) (accepted_allowed image journal n table m accepted)
+    by (Err r) refused = table_not_refused image journal m r accepted refused

@@ -8,12 +8,13 @@ use mathlib.Core.Path.{◌≡◌, refl, ap, ◌∙◌}
 use lib.ListN.{length}
 use Rattle.table.specs.Blocks.{Block, block_at}
 use Rattle.text.specs.Ascii.{ascii}
-use Rattle.text.specs.Text.{Wrote}
+use Rattle.text.specs.Page.{Writes}
+use Rattle.text.specs.declared.page.Page.{Page}
 use Rattle.figures.specs.Figures.{no_figures, plus, AtMost}
 use Rattle.sheet.specs.Line.{line, line_room}
 use Rattle.sheet.specs.Sheet.{lines_to, sums_to, sheet_of}
 use Rattle.figures.specs.declared.figures.Figures.{Figures}
-use Rattle.text.proofs.TextLaws.{wrote_nothing, wrote_then}
+use Rattle.text.proofs.PageLaws.{writes_nothing, writes_then}
 
 -- sums of figures that are not too large
 pub sums_most : (n count : ℕ) (figures : ℕ → Figures) → ((k : ℕ) → k < count → AtMost n (figures (suc k))) → (k : ℕ) → k ≤ count → AtMost (n * k) (sums_to figures k)
@@ -33,37 +34,35 @@ sums_most n count figures each (suc k) l =
       left_open = omega (arith, h.left_open, g.left_open);
     })
 
--- the lines of the blocks before i
-pub record Listing (blocks : List Block) (figures : ℕ → Figures) (count : ℕ) (out₀ out : List ℕ) (end : ℕ) (sums : Figures) (i : ℕ) : Type 0 where
-  pub within : i ≤ count
-  pub wrote : Wrote 0 (lines_to blocks figures i) out₀ end out
-  pub few : end ≤ line_room * i
+-- the lines of the blocks before i, behind the text of the first page
+pub record Listing (blocks : List Block) (figures : ℕ → Figures) (first page : Page) (sums : Figures) (i : ℕ) : Type 0 where
+  pub wrote : Writes (lines_to blocks figures i) first page
+  pub few : page.end ≤ first.end + line_room * i
   pub summed : sums ≡ sums_to figures i
 
-pub listing_start : (blocks : List Block) (figures : ℕ → Figures) (count : ℕ) (out₀ : List ℕ) → Listing blocks figures count out₀ out₀ 0 no_figures 0
+pub listing_start : (blocks : List Block) (figures : ℕ → Figures) (page : Page) → page.end ≤ length page.out.now → Listing blocks figures page page no_figures 0
 unfolding lines_to sums_to
-listing_start blocks figures count out₀ = record { within = omega arith; wrote = wrote_nothing 0 out₀ (omega arith); few = omega arith; summed = refl }
+listing_start blocks figures page within = record { wrote = writes_nothing page within; few = omega arith; summed = refl }
 
-module _ {blocks : List Block} {figures : ℕ → Figures} {count : ℕ} {out₀ out : List ℕ} {end : ℕ} {sums : Figures} {i : ℕ} (h : Listing blocks figures count out₀ out end sums i) where
-  pub listing_on : i < count → {f more : Figures} {next : List ℕ} {mid : ℕ} → f ≡ figures (i + 1) → Wrote end (line (block_at blocks i).tag f) out mid next → mid ≤ end + line_room
-      → more ≡ plus sums f → Listing blocks figures count out₀ next mid more (i + 1)
+module _ {blocks : List Block} {figures : ℕ → Figures} {first page : Page} {sums : Figures} {i : ℕ} (h : Listing blocks figures first page sums i) where
+  pub listing_on : {f more : Figures} {next : Page} → f ≡ figures (i + 1) → Writes (line (block_at blocks i).tag f) page next → next.end ≤ page.end + line_room
+      → more ≡ plus sums f → Listing blocks figures first next more (i + 1)
   unfolding lines_to sums_to
-  listing_on l {f} {more} {next} {mid} e w short s =
+  listing_on {f} {more} {next} e w short s =
       let n : i + 1 ≡ suc i = add-one i in
       let g : f ≡ figures (suc i) = e ∙ ap figures n in
-      let own : Wrote end (line (block_at blocks i).tag (figures (suc i))) out mid next = rw g at w in
+      let own : Writes (line (block_at blocks i).tag (figures (suc i))) page next = rw g at w in
       rw n (record {
-        within = omega arith;
-        wrote = wrote_then h.wrote own;
+        wrote = writes_then h.wrote own;
         few = omega (arith, h.few);
         summed = s ∙ (λ t. plus (h.summed t) (g t));
       })
 
 -- the last line after them
-pub last_line : (blocks : List Block) (figures : ℕ → Figures) {count : ℕ} {out₀ out next : List ℕ} {end mid : ℕ} {sums : Figures} → length blocks ≡ count
-    → Wrote 0 (lines_to blocks figures count) out₀ end out → sums ≡ sums_to figures count → Wrote end (line (ascii "TOTAL") sums) out mid next → Wrote 0 (sheet_of blocks figures) out₀ mid next
+pub last_line : (blocks : List Block) (figures : ℕ → Figures) {first page next : Page} {sums : Figures} → Writes (lines_to blocks figures (length blocks)) first page
+    → sums ≡ sums_to figures (length blocks) → Writes (line (ascii "TOTAL") sums) page next → Writes (sheet_of blocks figures) first next
 unfolding sheet_of
-last_line blocks figures n w s v = rw n (wrote_then w (rw s at v))
+last_line blocks figures w s v = writes_then w (rw s at v)
 
 -- figures that are equal at each block's position give the same sheet
 module _ (blocks : List Block) (f g : ℕ → Figures) (same : (k : ℕ) → k < length blocks → f (suc k) ≡ g (suc k)) where

@@ -2,14 +2,16 @@
 use Prim.Native.Nat.{ℕ, suc, ◌+◌, ◌-◌, ◌≤◌, ◌<◌}
 use native.Mathlib.Omega.{arith}
 use mathlib.Core.List.{List}
-use mathlib.Core.Path.{◌≡◌, refl, ap, ◌∙◌}
+use mathlib.Core.Path.{◌≡◌, refl, ap, sym, ◌∙◌}
 use lib.ListN.{length, take, drop, length-drop}
 use lib.Seq.{take_all}
 use borrow.Author.Tests.{lt-ltb, le-ltb}
 use Rattle.image.specs.Image.{most_slots}
 use Rattle.table.specs.Check.{check_of}
 use Rattle.table.specs.Blocks.{Block, blocks_of}
-use Rattle.table.specs.declared.check.Checked.TheVariants.{Blocks}
+use Rattle.std.specs.Prelude.{Result, Ok, Err, IfErr}
+use Rattle.refusal.specs.Refusal.{check_number}
+use Rattle.refusal.specs.declared.Refusal.{Refusal}
 use Rattle.table.proofs.AcceptedLaws.{accepted_blocks, accepted_few}
 use Rattle.layout.specs.EventLayout.{decode_events, events_at}
 use Rattle.layout.specs.declared.event.Posted.{Posted}
@@ -18,11 +20,10 @@ use Rattle.block.specs.Event.{Start, DoneEvent, Failed, AbortedEvent, Withdrawn}
 use Rattle.block.specs.Turns.{count_of}
 use Rattle.block.proofs.CountLaws.{open_count, open_most, finishes, turns_counts}
 use Rattle.journal.specs.Allowed.{Allowed}
-use Rattle.journal.specs.Check.{check_journal_of}
-use Rattle.journal.specs.declared.check.JournalChecked.TheVariants.{Events}
+use Rattle.journal.specs.Check.{event_count, journal_verdict, check_journal_of}
 use Rattle.journal.proofs.AnswerLaws.{accepted_length, accepted_allowed}
 use Rattle.figures.specs.Figures.{figures_by, figures_at}
-use Rattle.figures.specs.Tally.{count_in, Tallied, figures_in, RowsFit}
+use Rattle.figures.specs.Tally.{Counts, Tallied, figures_in, RowsFit}
 use Rattle.sheet.specs.Line.{refused_line}
 use Rattle.sheet.specs.Sheet.{sheet_of}
 use Rattle.sheet.specs.Totals.{table_length, table_in, journal_in, printed, most_input, totals_of}
@@ -38,19 +39,24 @@ allowed_balance blocks events allowed k l =
     let e = turns_counts t.1 in
     (open_count t.0, open_most t.0, omega (arith, e))
 
+-- a table and a journal that pass one after the other
+pub accepted_both : (image journal : List ℕ) (n : ℕ) → check_of image ≡ Ok n → journal_verdict (blocks_of image) journal ≡ Ok tt
+    → check_journal_of image journal ≡ Ok (event_count journal)
+unfolding check_journal_of
+accepted_both image journal n table verdict = rw (table, verdict) refl
+
 -- the counts of an accepted journal
-module _ (image journal : List ℕ) (n : ℕ) (table : check_of image ≡ Blocks n) (m : ℕ) (accepted : check_journal_of image journal ≡ Events m) (counts : List ℕ)
+module _ (image journal : List ℕ) (n : ℕ) (table : check_of image ≡ Ok n) (m : ℕ) (accepted : check_journal_of image journal ≡ Ok m) (counts : Counts)
     (tallied : Tallied (decode_events m journal) counts) where
   abbrev events : List Posted
   events = decode_events m journal
 
-  pub rows_fit : length journal ≤ most_input → RowsFit counts n
+  pub rows_fit : length journal ≤ most_input → RowsFit counts (length (blocks_of image))
   unfolding finishes
   rows_fit short k l =
-      let few : n ≤ most_slots = accepted_few image n table in
-      let in_table : k < length (blocks_of image) = omega (arith, accepted_blocks image n table) in
-      let balance = allowed_balance (blocks_of image) events (accepted_allowed image journal n table m accepted) k in_table in
-      let count : (kind : ℕ) → kind ≤ Withdrawn → count_in counts (suc k) kind ≡ count_of kind (events_at (suc k) events) = λ kind h. tallied.each (suc k) kind (omega arith) h in
+      let few : suc k ≤ most_slots = omega (arith, accepted_few image n table, accepted_blocks image n table) in
+      let balance = allowed_balance (blocks_of image) events (accepted_allowed image journal n table m accepted) k l in
+      let count : (kind : ℕ) → kind ≤ Withdrawn → counts (suc k) kind ≡ count_of kind (events_at (suc k) events) = λ kind h. tallied.each (suc k) kind few h in
       let starts = count Start (omega arith) in
       let done = count DoneEvent (omega arith) in
       let failed = count Failed (omega arith) in
@@ -78,8 +84,8 @@ module _ (image journal : List ℕ) (n : ℕ) (table : check_of image ≡ Blocks
         left_open = starts i - (done i + failed i + aborted i + withdrawn i);
       }
 
-  pub sheet_is : sheet_of (blocks_of image) (figures_in counts) ≡ sheet_of (blocks_of image) (figures_at events)
-  sheet_is = same_sheet (blocks_of image) (figures_in counts) (figures_at events) figures_are
+  pub prints_sheet : sheet_of (blocks_of image) (figures_in counts) ≡ printed (check_journal_of image journal) image journal
+  prints_sheet = rw accepted (same_sheet (blocks_of image) (figures_in counts) (figures_at events) figures_are)
 
 -- what is printed, by the length of the input
 pub prints_75 : (input : List ℕ) → most_input < length input → refused_line 75 ≡ totals_of input
@@ -94,3 +100,9 @@ prints_checked input n image journal l e f g =
     let i : image ≡ table_in input = f ∙ ap (λ (m : ℕ). take m input) e in
     let j : journal ≡ journal_in input = g ∙ rest ∙ ap (λ (m : ℕ). drop m input) e in
     rw (le-ltb most_input (length input) l) (λ t. printed (check_journal_of (i t) (j t)) (i t) (j t))
+
+-- a refusal of a part of the input is that of the input
+pub prints_refused : (image journal text : List ℕ) (answer : Result (Unit {0}) Refusal) → printed (check_journal_of image journal) image journal ≡ text
+    → IfErr answer (λ r. check_journal_of image journal ≡ Err r) → IfErr answer (λ r. refused_line (check_number r.check) ≡ text)
+prints_refused image journal text (Ok u) e h = tt
+prints_refused image journal text (Err r) e h = sym (ap (λ (a : Result ℕ Refusal). printed a image journal) h) ∙ e

@@ -1,5 +1,5 @@
 -- Document 02, 7/14: what the figures of an accepted journal are: counts of its events, with nothing lost and nothing counted twice.
-use Rattle.std.specs.Prelude.{ℕ, suc, ◌+◌, ◌≤◌, ◌<◌, List, [], ◌∷◌, ◌≡◌, length}
+use Rattle.std.specs.Prelude.{ℕ, suc, ◌+◌, ◌≤◌, ◌<◌, List, [], ◌∷◌, ◌≡◌, Ok, length}
 use Rattle.table.specs.Blocks.{Block, blocks_of}
 use Rattle.layout.specs.EventLayout.{decode_events, events_at}
 use Rattle.layout.specs.declared.event.Posted.{Posted}
@@ -7,7 +7,6 @@ use Rattle.block.specs.Event.{Start, DoneEvent, Failed, AbortedEvent, Withdrawn}
 use Rattle.block.specs.Turns.{count_of}
 use Rattle.block.specs.declared.event.Event.{Event}
 use Rattle.journal.specs.Check.{check_journal_of}
-use Rattle.journal.specs.declared.check.JournalChecked.TheVariants.{Events}
 use Rattle.figures.specs.Figures.{figures_at}
 use Rattle.sheet.specs.Sheet.{sums_to}
 use Rattle.figures.specs.declared.figures.Figures.{Figures}
@@ -37,4 +36,4 @@ pub record SheetCounts (blocks : List Block) (events : List Posted) : Type 0 whe
 
 -- theorem sheet_counts, proofs/SheetCounts.antt: of every journal that is accepted
 abbrev pub AcceptedSheetCounts : Type 0
-AcceptedSheetCounts = (image journal : List ℕ) (n : ℕ) → check_journal_of image journal ≡ Events n → SheetCounts (blocks_of image) (decode_events n journal)
+AcceptedSheetCounts = (image journal : List ℕ) (n : ℕ) → check_journal_of image journal ≡ Ok n → SheetCounts (blocks_of image) (decode_events n journal)

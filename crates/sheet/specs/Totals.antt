@@ -1,11 +1,11 @@
 -- Document 02, 7/14: "Shift totals.": what is printed of all that came on standard input.
-use Rattle.std.specs.Prelude.{ℕ, min, cond, List, ltb, length, take, drop}
+use Rattle.std.specs.Prelude.{ℕ, min, cond, List, Result, Ok, Err, ltb, length, take, drop}
+use Rattle.refusal.specs.Refusal.{check_number}
+use Rattle.refusal.specs.declared.Refusal.{Refusal}
 use Rattle.image.specs.Image.{slot_count, image_length}
 use Rattle.table.specs.Blocks.{blocks_of}
 use Rattle.layout.specs.EventLayout.{decode_events}
 use Rattle.journal.specs.Check.{check_journal_of}
-use Rattle.journal.specs.declared.check.JournalChecked.{JournalChecked}
-use Rattle.journal.specs.declared.check.JournalChecked.TheVariants.{Events, Refused}
 use Rattle.figures.specs.Figures.{figures_at}
 use Rattle.sheet.specs.Line.{refused_line}
 use Rattle.sheet.specs.Sheet.{sheet_of}
@@ -22,9 +22,9 @@ abbrev pub journal_in : List ℕ → List ℕ
 journal_in input = drop (table_length input) input
 
 -- the sheet of an accepted journal of n events, or the line of the refusal, without its place
-abbrev pub printed : JournalChecked → List ℕ → List ℕ → List ℕ
-printed (Events n) image journal = sheet_of (blocks_of image) (figures_at (decode_events n journal))
-printed (Refused number place) image journal = refused_line number
+abbrev pub printed : Result ℕ Refusal → List ℕ → List ℕ → List ℕ
+printed (Ok n) image journal = sheet_of (blocks_of image) (figures_at (decode_events n journal))
+printed (Err r) image journal = refused_line (check_number r.check)
 
 -- "at most 65,536 bytes together"
 abbrev pub most_input : ℕ

@@ -2,7 +2,7 @@
 -- twice, kinds 1 to 14, each wire from the frame or of a position of the table, tags in form none twice.
 use Prim.Native.Nat.{ℕ, zero, suc, ◌+◌, ◌≤◌, ◌<◌}
 use mathlib.Core.Path.{◌≡◌, refl, sym, ◌∙◌}
-use mathlib.Core.List.{List, [], ◌∷◌, ◌++◌, append_assoc, append-nil}
+use mathlib.Core.List.{List, [], ◌∷◌}
 use mathlib.Core.Bool.{Bool, true, false}
 use mathlib.Core.Logic.{◌⊎◌, inl, inr}
 use native.Mathlib.Omega.{arith}
@@ -12,56 +12,45 @@ use lib.ListN.{length, get_or, take}
 use lib.Seq.{get_or-take, length-take-le}
 use Rattle.kind.specs.Kind.{is_kind, has_abort}
 use Rattle.membership.specs.Membership.{among}
-use Rattle.table.specs.Place.{then_check}
+use Rattle.std.specs.Prelude.{Ok}
+use Rattle.std.specs.Result.{result_and}
+use Rattle.refusal.specs.Refusal.{Verdict}
 use Rattle.image.specs.Image.{most_slots, slot_count, kind_of, wire_slot, wire_code, start_wire_offset, abort_wire_offset, tag_of, HasSlot}
 use Rattle.table.specs.Header.{header_check, HeaderOk}
 use Rattle.table.specs.Tag.{tag_form, same_bytes}
 use Rattle.table.specs.Walk.{walked}
 use Rattle.table.specs.Chain.{chain_of, chain_verdict, position_of}
-use Rattle.table.specs.Record.{kind_ok, tag_among, no_wire, wire_ok, start_ok, abort_ok, record_check, records_from, records_check}
-use Rattle.table.specs.Spare.{spares_check}
+use Rattle.table.specs.Record.{kind_ok, tag_among, no_wire, wire_ok, start_ok, abort_ok, record_check, record_at, records_check}
+use Rattle.table.specs.Spare.{spare_ok, spare_at, spares_check}
 use Rattle.table.specs.Check.{verdict_of, check_of}
 use Rattle.table.specs.Blocks.{from_frame, wire_of, block_in, blocks_of, block_at}
 use Rattle.table.specs.Table.{RecordOk, WireFits}
-use Rattle.table.specs.declared.place.Place.TheVariants.{Slot}
-use Rattle.table.specs.declared.place.Verdict.{Verdict}
-use Rattle.table.specs.declared.place.Verdict.TheVariants.{Passed}
-use Rattle.table.specs.declared.check.Checked.TheVariants.{Blocks}
+use Rattle.refusal.specs.declared.Place.TheVariants.{Slot}
+use Rattle.refusal.specs.declared.Check.TheVariants.{SpareSlot}
 use Rattle.membership.proofs.Logic.{by_test, not_both, and_left, and_right}
 use Rattle.membership.proofs.MembershipLaws.{within_bounds}
-use Rattle.table.proofs.Logic.{not_failed, group_passes, rest_passes}
+use Rattle.refusal.proofs.Rows.{require_this, group_passes, rest_passes, each_passes}
 use Rattle.membership.proofs.AmongLaws.{all_at, all_among}
 use Rattle.table.proofs.PositionLaws.{position_bound, position_some}
 use Rattle.table.proofs.ChainLaws.{chain_in, chain_few, chain_distinct, has_slot}
 use Rattle.table.proofs.TagLaws.{same_self}
-use Rattle.table.proofs.CheckLaws.{header_ok_by, passed_by, blocks_by}
+use Rattle.table.proofs.CheckLaws.{header_ok_by}
 use Rattle.table.proofs.BlockLaws.{blocks_length, block_is}
 
 -- a record that passed its checks
-passes_record : (image chain : List ℕ) (repeated : Bool) (slot : ℕ) → record_check image chain repeated slot ≡ Passed → RecordOk image chain slot × (repeated ≡ false)
+passes_record : (image chain : List ℕ) (repeated : Bool) (slot : ℕ) → record_check image chain repeated slot ≡ Ok tt → RecordOk image chain slot × (repeated ≡ false)
 unfolding record_check
 passes_record image chain repeated slot e =
     by_test (kind_ok image slot)
     (λ k. by_test (tag_form (tag_of image slot))
-    (λ t. by_test repeated (λ r. not_failed _ 9 (Slot slot) refl (simp (k, t, r) at e))
+    (λ t. by_test repeated (λ r. let z = simp (k, t, r) at e in cc)
     (λ r. by_test (start_ok image chain slot)
     (λ s. by_test (abort_ok image chain slot)
     (λ a. (record { kind = k; tag = t; start = s; abort = a }, r))
-    (λ a. not_failed _ 10 (Slot slot) refl (simp (k, t, r, s, a) at e)))
-    (λ s. not_failed _ 10 (Slot slot) refl (simp (k, t, r, s) at e))))
-    (λ t. not_failed _ 8 (Slot slot) refl (simp (k, t) at e)))
-    (λ k. not_failed _ 7 (Slot slot) refl (simp k at e))
-
--- every record of slots that passed, with its tag against the earlier ones
-each_record : (image chain earlier rest : List ℕ) → records_from image chain earlier rest ≡ Passed → (i : ℕ) → i < length rest
-    → record_check image chain (tag_among image (tag_of image (get_or rest i 0)) (earlier ++ take i rest)) (get_or rest i 0) ≡ Passed
-unfolding records_from
-each_record image chain earlier [] e i l = absurd (omega arith)
-each_record image chain earlier (slot ∷ rest) e zero l =
-    rw (append-nil earlier) (group_passes (record_check image chain (tag_among image (tag_of image slot) earlier) slot) (records_from image chain (earlier ++ (slot ∷ [])) rest) e)
-each_record image chain earlier (slot ∷ rest) e (suc i) l =
-    let h = rest_passes (record_check image chain (tag_among image (tag_of image slot) earlier) slot) (records_from image chain (earlier ++ (slot ∷ [])) rest) e in
-    rw (append_assoc earlier (slot ∷ []) (take i rest)) at (each_record image chain (earlier ++ (slot ∷ [])) rest h i (omega arith))
+    (λ a. let z = simp (k, t, r, s, a) at e in cc))
+    (λ s. let z = simp (k, t, r, s) at e in cc)))
+    (λ t. let z = simp (k, t) at e in cc))
+    (λ k. let z = simp k at e in cc)
 
 -- a tag that is not among those of some slots is that of none
 pub none_among : (image tag slots : List ℕ) → tag_among image tag slots ≡ false → (j : ℕ) → j < length slots → tag_of image (get_or slots j 0) ≡ tag → ⊥
@@ -78,13 +67,9 @@ none_among image tag (k ∷ slots) e (suc j) l q =
 pub wire_fits : (image : List ℕ) (n slot code : ℕ) → length (chain_of image) ≡ n → wire_ok (chain_of image) slot code ≡ true → WireFits n (wire_of (chain_of image) slot code)
 wire_fits image n slot code e h =
     by_test (eqb slot 0)
-    (λ z. simp z (record { within = omega arith; flag = omega arith; frame = λ q. refl }))
+    (λ z. simp z tt)
     (λ z. let m : among slot (chain_of image) ≡ true = and_left _ _ (simp z at h) in
-    simp z (record {
-      within = omega (arith, position_bound 0 slot (chain_of image));
-      flag = omega arith;
-      frame = λ q. absurd (omega (arith, position_some 1 slot (chain_of image) m));
-    }))
+    simp z (omega (arith, position_some 1 slot (chain_of image) m), omega (arith, position_bound 0 slot (chain_of image))))
 
 -- the slot of a wire is 0 or of 1 to N
 source_in : (image : List ℕ) (slot code : ℕ) → wire_ok (chain_of image) slot code ≡ true → slot ≤ slot_count image
@@ -100,37 +85,42 @@ abort_wire_ok image chain slot h =
     let z : eqb (wire_slot image slot abort_wire_offset) 0 ≡ true = and_left _ (eqb (wire_code image slot abort_wire_offset) 0) g in
     simp z (and_right (eqb (wire_slot image slot abort_wire_offset) 0) (eqb (wire_code image slot abort_wire_offset) 0) g))
 
-module _ (image : List ℕ) (n : ℕ) (ok : check_of image ≡ Blocks n) where
-  passed : verdict_of image ≡ Passed
+module _ (image : List ℕ) (n : ℕ) (ok : check_of image ≡ Ok n) where
+  passed : verdict_of image ≡ Ok tt
   unfolding check_of
-  passed = passed_by (verdict_of image) (length (chain_of image)) n ok
+  passed = group_passes (verdict_of image) (Ok (length (chain_of image))) n ok
 
   abbrev from_records : Verdict
-  from_records = then_check (records_check image) (spares_check image)
+  from_records = result_and (records_check image) (spares_check image)
 
   abbrev from_chain : Verdict
-  from_chain = then_check (chain_verdict (walked image)) from_records
+  from_chain = result_and (chain_verdict (walked image)) from_records
 
-  chain_on : from_chain ≡ Passed
+  chain_on : from_chain ≡ Ok tt
   unfolding verdict_of
-  chain_on = rest_passes (header_check image) from_chain passed
+  chain_on = rest_passes (header_check image) from_chain tt passed
 
-  records_on : from_records ≡ Passed
-  records_on = rest_passes (chain_verdict (walked image)) from_records chain_on
+  records_on : from_records ≡ Ok tt
+  records_on = rest_passes (chain_verdict (walked image)) from_records tt chain_on
 
   -- each group of checks passed
-  pub accepted_header : header_check image ≡ Passed
+  pub accepted_header : header_check image ≡ Ok tt
   unfolding verdict_of
-  accepted_header = group_passes (header_check image) from_chain passed
+  accepted_header = group_passes (header_check image) from_chain tt passed
 
-  pub accepted_chain : chain_verdict (walked image) ≡ Passed
-  accepted_chain = group_passes (chain_verdict (walked image)) from_records chain_on
+  pub accepted_chain : chain_verdict (walked image) ≡ Ok tt
+  accepted_chain = group_passes (chain_verdict (walked image)) from_records tt chain_on
 
-  pub accepted_records : records_check image ≡ Passed
-  accepted_records = group_passes (records_check image) (spares_check image) records_on
+  pub accepted_records : records_check image ≡ Ok tt
+  accepted_records = group_passes (records_check image) (spares_check image) tt records_on
 
-  pub accepted_spares : spares_check image ≡ Passed
-  accepted_spares = rest_passes (records_check image) (spares_check image) records_on
+  -- a slot of 1 to N is on the chain or all zero
+  pub accepted-spare : (slot : ℕ) → 0 < slot → slot ≤ slot_count image → spare_ok image (chain_of image) slot ≡ true
+  unfolding spares_check
+  accepted-spare zero p q = absurd (omega arith)
+  accepted-spare (suc i) p q =
+      require_this (spare_ok image (chain_of image) (suc i)) SpareSlot (Slot (suc i)) (Ok tt) tt
+      (each_passes (spare_at image) (slot_count image) (rest_passes (records_check image) (spares_check image) tt records_on) i (omega arith))
 
   pub accepted_header_ok : HeaderOk image
   accepted_header_ok = header_ok_by image accepted_header
@@ -138,7 +128,7 @@ module _ (image : List ℕ) (n : ℕ) (ok : check_of image ≡ Blocks n) where
   -- the number of blocks
   pub accepted_count : length (chain_of image) ≡ n
   unfolding check_of
-  accepted_count = blocks_by (verdict_of image) (length (chain_of image)) n ok
+  accepted_count = let e = rest_passes (verdict_of image) (Ok (length (chain_of image))) n ok in cc
 
   pub accepted_blocks : length (blocks_of image) ≡ n
   accepted_blocks = blocks_length image (chain_of image) (chain_of image) ∙ accepted_count
@@ -160,7 +150,7 @@ module _ (image : List ℕ) (n : ℕ) (ok : check_of image ≡ Blocks n) where
     both : RecordOk image (chain_of image) (get_or (chain_of image) i 0) × (tag_among image (tag_of image (get_or (chain_of image) i 0)) (take i (chain_of image)) ≡ false)
     unfolding records_check
     both = passes_record image (chain_of image) (tag_among image (tag_of image (get_or (chain_of image) i 0)) (take i (chain_of image))) (get_or (chain_of image) i 0)
-        (each_record image (chain_of image) [] (chain_of image) accepted_records i in_chain)
+        (each_passes (record_at image (chain_of image)) (length (chain_of image)) accepted_records i in_chain)
 
     pub accepted_record : RecordOk image (chain_of image) (get_or (chain_of image) i 0)
     accepted_record = both.0

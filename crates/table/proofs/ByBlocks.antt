@@ -8,7 +8,7 @@ use Rattle.table.specs.Chain.{chain_of}
 use Rattle.table.specs.Check.{check_of}
 use Rattle.table.specs.Lookup.{tag_position, find_of}
 use Rattle.table.specs.Blocks.{Block, block_in, blocks_in, blocks_of}
-use Rattle.table.specs.declared.check.Checked.TheVariants.{Blocks}
+use Rattle.std.specs.Prelude.{Ok}
 
 -- the position, from p on, of the first of some blocks that has the tag; 0 where none has
 position_among : List ℕ → ℕ → List Block → ℕ
@@ -20,7 +20,7 @@ unfolding tag_position blocks_in block_in position_among
 by_blocks image chain tag p [] = refl
 by_blocks image chain tag p (slot ∷ slots) = rw (by_blocks image chain tag (suc p) slots)
 
-pub find_by_blocks : (first second : List ℕ) (m n : ℕ) → check_of first ≡ Blocks m → check_of second ≡ Blocks n → blocks_of first ≡ blocks_of second
+pub find_by_blocks : (first second : List ℕ) (m n : ℕ) → check_of first ≡ Ok m → check_of second ≡ Ok n → blocks_of first ≡ blocks_of second
     → (tag : List ℕ) → find_of first tag ≡ find_of second tag
 unfolding find_of
 find_by_blocks first second m n one two same tag =

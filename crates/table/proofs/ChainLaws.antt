@@ -15,9 +15,11 @@ use Rattle.image.specs.Image.{most_slots, slot_count, head_slot, next_of, HasSlo
 use Rattle.table.specs.Header.{HeaderOk}
 use Rattle.table.specs.Walk.{Met, Stopped, unmet, walk_in, walk_from, walked}
 use Rattle.table.specs.Chain.{slots_of, chain_of, chain_verdict, position_from, position_of, HoldsPositions, Holds}
-use Rattle.table.specs.declared.place.Place.{Place}
-use Rattle.table.specs.declared.place.Place.TheVariants.{Header, Slot}
-use Rattle.table.specs.declared.place.Verdict.TheVariants.{Passed}
+use Rattle.refusal.specs.declared.Place.{Place}
+use Rattle.refusal.specs.declared.Place.TheVariants.{Header, Slot}
+use Rattle.refusal.specs.declared.Check.TheVariants.{LinkAbove, LinkAgain}
+use Rattle.table.specs.declared.chain.Chain.{Chain}
+use Rattle.std.specs.Prelude.{Ok}
 use Rattle.membership.proofs.Logic.{by_test}
 use Rattle.membership.proofs.AmongLaws.{among_at, AllIn, all_snoc, all_at}
 use Rattle.table.proofs.PositionLaws.{position_snoc, position_zero, position_some, position_test}
@@ -79,18 +81,18 @@ walking_start image slots positions e f h = record {
 }
 
 module _ (image slots positions : List ℕ) (count : ℕ) (from : Place) (at : ℕ) (hd : HeaderOk image) (w : Walking image slots positions count from at) where
-  pub walking_ends : at ≡ 0 → (Passed ≡ chain_verdict (walked image)) × Holds (chain_of image) count slots positions
+  pub walking_ends : at ≡ 0 → (Ok tt ≡ chain_verdict (walked image)) × Holds (chain_of image) (record { slots = slots; positions = positions; count = count })
   walking_ends z =
       let e : Met (take count slots) ≡ walked image = sym (walk_ends image (take count slots) from at z) ∙ w.onward in
-      let h : Holds (take count slots) count slots positions = record {
+      let h : Holds (take count slots) (record { slots = slots; positions = positions; count = count }) = record {
         listed = refl;
         counted = length-take-le count slots (omega (arith, w.sized, w.few));
         few = w.few;
         places = w.places;
       } in
-      (ap chain_verdict e, subst (λ (l : List ℕ). Holds l count slots positions) (ap slots_of e) h)
+      (ap chain_verdict e, subst (λ (l : List ℕ). Holds l (record { slots = slots; positions = positions; count = count })) (ap slots_of e) h)
 
-  pub walking_above : slot_count image < at → Stopped 5 from ≡ walked image
+  pub walking_above : slot_count image < at → Stopped LinkAbove from ≡ walked image
   walking_above h = sym (walk_above image (take count slots) from at h) ∙ w.onward
 
   met : (get_or positions at 0 ≡ 0 → ⊥) → among at (take count slots) ≡ true
@@ -102,7 +104,7 @@ module _ (image slots positions : List ℕ) (count : ℕ) (from : Place) (at : �
       (λ m. absurd (omega (arith, position_some 1 at (take count slots) m, w.places.placed at)))
       (λ m. m)
 
-  pub walking_again : (at ≡ 0 → ⊥) → at ≤ slot_count image → (get_or positions at 0 ≡ 0 → ⊥) → Stopped 6 from ≡ walked image
+  pub walking_again : (at ≡ 0 → ⊥) → at ≤ slot_count image → (get_or positions at 0 ≡ 0 → ⊥) → Stopped LinkAgain from ≡ walked image
   walking_again z h n = sym (walk_again image (take count slots) from at (omega arith) h (met n)) ∙ w.onward
 
   pub walking_room : (at ≡ 0 → ⊥) → at ≤ slot_count image → get_or positions at 0 ≡ 0 → count < slot_count image
@@ -175,11 +177,11 @@ pub has_slot : (image : List ℕ) (slot : ℕ) → HeaderOk image → 0 < slot �
 has_slot image slot hd p q = (p, omega (arith, hd.sized))
 
 -- what the code holds at an index
-module _ (image : List ℕ) (count : ℕ) (slots positions : List ℕ) (hd : HeaderOk image) (held : Holds (chain_of image) count slots positions) (i : ℕ) (l : i < count) where
-  pub slot_is : get_or slots i 0 ≡ get_or (chain_of image) i 0
-  slot_is = sym (get_or-take count slots i 0 l) ∙ ap (λ (x : List ℕ). get_or x i 0) held.listed
+module _ (image : List ℕ) (chain : Chain) (hd : HeaderOk image) (held : Holds (chain_of image) chain) (i : ℕ) (l : i < chain.count) where
+  pub slot_is : get_or chain.slots i 0 ≡ get_or (chain_of image) i 0
+  slot_is = sym (get_or-take chain.count chain.slots i 0 l) ∙ ap (λ (x : List ℕ). get_or x i 0) held.listed
 
-  pub slot_has : HasSlot image (get_or slots i 0)
+  pub slot_has : HasSlot image (get_or chain.slots i 0)
   slot_has =
       let a = all_at (slot_count image) (chain_of image) i (chain_in image) (omega (arith, held.counted)) in
       rw slot_is (has_slot image (get_or (chain_of image) i 0) hd a.0 a.1)

@@ -1,4 +1,3 @@
-pub mod Logic
 pub mod PositionLaws
 pub mod Walk
 pub mod ChainLaws
@@ -11,7 +10,7 @@ pub mod SpareLaws
 pub mod CheckLaws
 pub mod BlockLaws
 pub mod AcceptedLaws
-pub mod Table
+pub mod TableLaws
 pub mod HeldLaws
 pub mod AnswerLaws
 pub mod SearchLaws

@@ -10,7 +10,10 @@ use borrow.Author.Tests.{eqb-true, eqb-false}
 use lib.Dec.{eqb}
 use lib.ListN.{length, get_or, take, drop, length-drop}
 use lib.Seq.{take-add, drop_at, drop-drop, length-take-le}
-use Rattle.table.specs.Place.{place_number}
+use Rattle.std.specs.Prelude.{Result, Ok, Err}
+use Rattle.std.specs.Result.{result_and}
+use Rattle.refusal.specs.Refusal.{check_number, place_number}
+use Rattle.refusal.specs.declared.Refusal.{Refusal}
 use Rattle.image.specs.Image.{slot_length, slot_count, slot_start, slot_bytes, tag_offset, tag_length, tag_of, HasSlot}
 use Rattle.table.specs.Tag.{tag_form, same_bytes}
 use Rattle.table.specs.Chain.{chain_of}
@@ -19,7 +22,6 @@ use Rattle.table.specs.Lookup.{
   tag_position,
   found_at,
   tag_checks,
-  after_table,
   find_of,
   slot_at,
   HasTag,
@@ -34,11 +36,6 @@ use Rattle.table.specs.Lookup.{
   ShowsTag,
 }
 use Rattle.table.specs.Blocks.{block_in, blocks_of, block_at}
-use Rattle.table.specs.declared.place.Place.{Place}
-use Rattle.table.specs.declared.check.Checked.{Checked}
-use Rattle.table.specs.declared.check.Checked.TheVariants.{Blocks, Refused as CheckRefused}
-use Rattle.table.specs.declared.lookup.Found.{Found}
-use Rattle.table.specs.declared.lookup.Found.TheVariants.{At, Refused}
 use Rattle.membership.proofs.Logic.{by_test, not_both}
 use Rattle.table.proofs.TagLaws.{same_equal, same_self}
 use Rattle.table.proofs.AcceptedLaws.{accepted_count, accepted_has_slot, accepted_block, accepted_tags}
@@ -80,34 +77,34 @@ module _ (image tag : List ℕ) where
       (λ s. position_none (suc p) slots (omega arith) (simp s at e) i (omega arith) q)
 
   -- the block at an index of an accepted table has its slot's tag
-  pub block_tag : (n i : ℕ) → check_of image ≡ Blocks n → i < n → (block_at (blocks_of image) i).tag ≡ tag_of image (get_or (chain_of image) i 0)
+  pub block_tag : (n i : ℕ) → check_of image ≡ Ok n → i < n → (block_at (blocks_of image) i).tag ≡ tag_of image (get_or (chain_of image) i 0)
   unfolding block_in
   block_tag n i ok l = rw (accepted_block image n ok i l)
 
   -- the position that the search gives, and a block that has the tag
-  searched : (n p : ℕ) → check_of image ≡ Blocks n → 0 < p → tag_position image tag 1 (chain_of image) ≡ p → HasTag image tag n p
+  searched : (n p : ℕ) → check_of image ≡ Ok n → 0 < p → tag_position image tag 1 (chain_of image) ≡ p → HasTag image tag n p
   searched n p ok h e =
       let r = position_has 1 (chain_of image) (omega arith) (p - 1) (let z : tag_position image tag 1 (chain_of image) ≡ 1 + (p - 1) = omega arith in z) in
       let l : p - 1 < n = omega (arith, r.0, accepted_count image n ok) in
       record { first = h; last = omega arith; same = block_tag n (p - 1) ok l ∙ r.1 }
 
-  pub has_once : (n p q : ℕ) → check_of image ≡ Blocks n → HasTag image tag n p → HasTag image tag n q → p ≡ q
+  pub has_once : (n p q : ℕ) → check_of image ≡ Ok n → HasTag image tag n p → HasTag image tag n q → p ≡ q
   has_once n p q ok a b =
       let i : p - 1 < n = omega (arith, a.first, a.last) in
       let j : q - 1 < n = omega (arith, b.first, b.last) in
       omega (arith, accepted_tags image n ok (p - 1) (q - 1) i j (a.same ∙ sym b.same), a.first, b.first)
 
-  none_found : (n p : ℕ) → check_of image ≡ Blocks n → tag_position image tag 1 (chain_of image) ≡ 0 → HasTag image tag n p → ⊥
+  none_found : (n p : ℕ) → check_of image ≡ Ok n → tag_position image tag 1 (chain_of image) ≡ 0 → HasTag image tag n p → ⊥
   none_found n p ok e a =
       let l : p - 1 < n = omega (arith, a.first, a.last) in
       position_none 1 (chain_of image) (omega arith) e (p - 1) (omega (arith, accepted_count image n ok)) (sym (block_tag n (p - 1) ok l) ∙ a.same)
 
   -- what each answer means
-  abbrev Means : Found → Type 0
-  Means (At p) = FoundBlock image tag p
-  Means (Refused number place) = (number ≡ 51 → NoSuchTag image tag)
+  abbrev Means : Result ℕ Refusal → Type 0
+  Means (Ok p) = FoundBlock image tag p
+  Means (Err r) = (check_number r.check ≡ 51 → NoSuchTag image tag)
 
-  means_checks : (n : ℕ) → check_of image ≡ Blocks n → Means (tag_checks image tag)
+  means_checks : (n : ℕ) → check_of image ≡ Ok n → Means (tag_checks image tag)
   means_checks n ok =
       by_test (tag_form tag)
       (λ f. simp f (means_position (tag_position image tag 1 (chain_of image)) refl f))
@@ -117,18 +114,18 @@ module _ (image tag : List ℕ) where
       means_position zero e f = λ q. record { blocks = n; answer = ok; form = f; none = λ p. none_found n p ok e }
       means_position (suc p) e f = record { blocks = n; answer = ok; form = f; has = searched n (suc p) ok (omega arith) e }
 
-  means_after : (answer : Checked) → check_of image ≡ answer → Means (after_table answer (tag_checks image tag))
-  means_after (Blocks n) e = means_checks n e
-  means_after (CheckRefused number place) e = λ q. absurd (omega (arith, refusal_bounds image number place e))
+  means_after : (answer : Result ℕ Refusal) → check_of image ≡ answer → Means (result_and answer (tag_checks image tag))
+  means_after (Ok n) e = means_checks n e
+  means_after (Err r) e = λ q. absurd (omega (arith, refusal_bounds image r e))
 
   means : Means (find_of image tag)
   unfolding find_of
   means = means_after (check_of image) refl
 
   -- the bounds of a refusal
-  abbrev Bounds : Found → Type 0
-  Bounds (At p) = Unit {0}
-  Bounds (Refused number place) = (1 ≤ number) × (number ≤ 51) × (place_number place ≤ slot_count image)
+  abbrev Bounds : Result ℕ Refusal → Type 0
+  Bounds (Ok p) = Unit {0}
+  Bounds (Err r) = (1 ≤ check_number r.check) × (check_number r.check ≤ 51) × (place_number r.place ≤ slot_count image)
 
   bounds_checks : Bounds (tag_checks image tag)
   bounds_checks =
@@ -138,16 +135,16 @@ module _ (image tag : List ℕ) where
       bounds_position zero = (omega arith, omega arith, omega arith)
       bounds_position (suc p) = tt
 
-  bounds_after : (answer : Checked) → check_of image ≡ answer → Bounds (after_table answer (tag_checks image tag))
-  bounds_after (Blocks n) e = bounds_checks
-  bounds_after (CheckRefused number place) e = omega (arith, refusal_bounds image number place e)
+  bounds_after : (answer : Result ℕ Refusal) → check_of image ≡ answer → Bounds (result_and answer (tag_checks image tag))
+  bounds_after (Ok n) e = bounds_checks
+  bounds_after (Err r) e = omega (arith, refusal_bounds image r e)
 
-  pub find_bounds : (number : ℕ) (place : Place) → find_of image tag ≡ Refused number place → (1 ≤ number) × (number ≤ 51) × (place_number place ≤ slot_count image)
+  pub find_bounds : (r : Refusal) → find_of image tag ≡ Err r → (1 ≤ check_number r.check) × (check_number r.check ≤ 51) × (place_number r.place ≤ slot_count image)
   unfolding find_of
-  find_bounds number place e = subst (λ (f : Found). Bounds f) e (bounds_after (check_of image) refl)
+  find_bounds r e = subst (λ (f : Result ℕ Refusal). Bounds f) e (bounds_after (check_of image) refl)
 
 pub found_means : FoundMeans
-found_means image tag p e = subst (λ (f : Found). Means image tag f) e (means image tag)
+found_means image tag p e = subst (λ (f : Result ℕ Refusal). Means image tag f) e (means image tag)
 
 pub found_when : FoundWhen
 found_when image tag p f =
@@ -157,15 +154,15 @@ found_when image tag p f =
     (λ z. let m : (tag_position image tag 1 (chain_of image) ≡ 0 → ⊥) = eqb-false _ _ z in
     let h = searched image tag n (tag_position image tag 1 (chain_of image)) f.answer (omega arith) refl in
     sym (tag_at image tag (tag_position image tag 1 (chain_of image)) f.form refl m ∙ find_checks image tag n f.answer)
-    ∙ ap At (has_once image tag n (tag_position image tag 1 (chain_of image)) p f.answer h f.has))
+    ∙ ap Ok (has_once image tag n (tag_position image tag 1 (chain_of image)) p f.answer h f.has))
 
 pub found_once : FoundOnce
 found_once image tag p q f g =
-    let e : At p ≡ At q = sym (found_when image tag p f) ∙ found_when image tag q g in
+    let e : ◌≡◌ {A = Result ℕ Refusal} (Ok p) (Ok q) = sym (found_when image tag p f) ∙ found_when image tag q g in
     cc
 
 pub no_tag_means : NoTagMeans
-no_tag_means image tag e = subst (λ (f : Found). Means image tag f) e (means image tag) refl
+no_tag_means image tag e = subst (λ (f : Result ℕ Refusal). Means image tag f) e (means image tag) refl
 
 pub no_tag_when : NoTagWhen
 no_tag_when image tag f =

@@ -1,5 +1,5 @@
 -- Laws of the record checks: what the loop of record::check_records keeps, with a mark for each tag met so far. For the proof of that function.
-use Prim.Native.Nat.{ℕ, ◌+◌, ◌≤◌, ◌<◌}
+use Prim.Native.Nat.{ℕ, ◌+◌, ◌<◌}
 use mathlib.Core.Path.{◌≡◌, refl, ap, sym, ◌∙◌}
 use mathlib.Core.List.{List, [], ◌∷◌, ◌++◌}
 use mathlib.Core.Bool.{Bool, true, false, ◌||◌}
@@ -7,20 +7,20 @@ use native.Mathlib.Omega.{arith}
 use native.Mathlib.Numerals.{add-one}
 use lib.Dec.{eqb}
 use borrow.Author.Tests.{eq-eqb, ne_eqb, eqb-true}
-use lib.ListN.{length, get_or, take, drop, set, length-set}
-use lib.Seq.{drop-cons, drop-length, take-suc, get_or-set_same, get_or-set_other}
+use lib.ListN.{length, get_or, take, set, length-set}
+use lib.Seq.{take-suc, get_or-set_same, get_or-set_other}
 use Rattle.words.specs.Word.{Bytes, number}
 use Rattle.membership.proofs.Logic.{by_test, not_both}
-use Rattle.table.specs.Place.{then_check}
+use Rattle.std.specs.Prelude.{Ok, Err}
+use Rattle.refusal.specs.Refusal.{Verdict, first_refused}
+use Rattle.refusal.specs.declared.Refusal.{Refusal}
+use Rattle.refusal.proofs.Rows.{refused_next, refused_at}
 use Rattle.image.specs.Image.{slot_count, tag_of, HasSlot}
 use Rattle.table.specs.Header.{HeaderOk}
 use Rattle.table.specs.Tag.{same_bytes}
 use Rattle.table.specs.Chain.{chain_of}
 use Rattle.table.specs.Marks.{mark_count, mark_index}
-use Rattle.table.specs.Record.{tag_among, record_check, records_from, records_check}
-use Rattle.table.specs.declared.place.Place.{Place}
-use Rattle.table.specs.declared.place.Verdict.{Verdict}
-use Rattle.table.specs.declared.place.Verdict.TheVariants.{Passed, Failed}
+use Rattle.table.specs.Record.{tag_among, record_check, record_at, records_check}
 use Rattle.membership.proofs.AmongLaws.{AllIn, all_take}
 use Rattle.table.proofs.ChainLaws.{chain_in, has_slot}
 use Rattle.table.proofs.TagLaws.{same_number, tag_length_lem, tag_bytes}
@@ -63,90 +63,75 @@ abbrev pub mark_of : List ℕ → ℕ → ℕ
 mark_of image slot = mark_index (number (tag_of image slot))
 
 -- every one of some slots has its mark
-unfoldable pub Marked : List ℕ → List ℕ → List ℕ → Type 0
+unfoldable pub Marked : List ℕ → List Bool → List ℕ → Type 0
 Marked image marks [] = Unit {0}
-Marked image marks (k ∷ ks) = (get_or marks (mark_of image k) 0 ≡ 1) × Marked image marks ks
+Marked image marks (k ∷ ks) = (get_or marks (mark_of image k) false ≡ true) × Marked image marks ks
 
-marked_snoc : (image marks ks : List ℕ) (k : ℕ) → Marked image marks ks → get_or marks (mark_of image k) 0 ≡ 1 → Marked image marks (ks ++ (k ∷ []))
+marked_snoc : (image : List ℕ) (marks : List Bool) (ks : List ℕ) (k : ℕ) → Marked image marks ks → get_or marks (mark_of image k) false ≡ true → Marked image marks (ks ++ (k ∷ []))
 unfolding Marked
 marked_snoc image marks [] k h e = (e, tt)
 marked_snoc image marks (x ∷ ks) k h e = (h.0, marked_snoc image marks ks k h.1 e)
 
-mark_kept : (marks : List ℕ) (p q : ℕ) → p < length marks → get_or marks q 0 ≡ 1 → get_or (set marks p 1) q 0 ≡ 1
+mark_kept : (marks : List Bool) (p q : ℕ) → p < length marks → get_or marks q false ≡ true → get_or (set marks p true) q false ≡ true
 mark_kept marks p q l e =
     by_test (eqb q p)
-    (λ t. let z : q ≡ p = eqb-true q p t in rw z (get_or-set_same marks p 1 0 l))
-    (λ t. get_or-set_other marks p q 1 0 (λ z. not_both true refl (sym (eq-eqb q p z) ∙ t)) ∙ e)
+    (λ t. let z : q ≡ p = eqb-true q p t in rw z (get_or-set_same marks p true false l))
+    (λ t. get_or-set_other marks p q true false (λ z. not_both true refl (sym (eq-eqb q p z) ∙ t)) ∙ e)
 
-marked_more : (image marks ks : List ℕ) (p : ℕ) → p < length marks → Marked image marks ks → Marked image (set marks p 1) ks
+marked_more : (image : List ℕ) (marks : List Bool) (ks : List ℕ) (p : ℕ) → p < length marks → Marked image marks ks → Marked image (set marks p true) ks
 unfolding Marked
 marked_more image marks [] p l h = tt
 marked_more image marks (k ∷ ks) p l h = (mark_kept marks p (mark_of image k) l h.0, marked_more image marks ks p l h.1)
 
 -- a tag without a mark in its place is none of theirs
-unmarked : (image marks : List ℕ) → HeaderOk image → Bytes image → (k : ℕ) → HasSlot image k → (ks : List ℕ) → AllIn (slot_count image) ks
-    → Marked image marks ks → get_or marks (mark_of image k) 0 ≡ 0 → tag_among image (tag_of image k) ks ≡ false
+unmarked : (image : List ℕ) (marks : List Bool) → HeaderOk image → Bytes image → (k : ℕ) → HasSlot image k → (ks : List ℕ) → AllIn (slot_count image) ks
+    → Marked image marks ks → get_or marks (mark_of image k) false ≡ false → tag_among image (tag_of image k) ks ≡ false
 unfolding tag_among Marked
 unmarked image marks hd by k hk [] h m z = refl
 unmarked image marks hd by k hk (x ∷ ks) h m z =
     let s = same_tags image hd by x k (has_slot image x hd h.0 h.1) hk in
     by_test (eqb (number (tag_of image x)) (number (tag_of image k)))
     (λ e. let q : number (tag_of image x) ≡ number (tag_of image k) = eqb-true _ _ e in
-    let one : get_or marks (mark_of image x) 0 ≡ 1 = m.0 in
-    let two : get_or marks (mark_of image k) 0 ≡ 1 = ap (λ (t : ℕ). get_or marks (mark_index t) 0) (sym q) ∙ one in
-    absurd (omega (arith, two, z)))
+    not_both (get_or marks (mark_of image k) false) (ap (λ (t : ℕ). get_or marks (mark_index t) false) (sym q) ∙ m.0) z)
     (λ e. simp (s, e) (unmarked image marks hd by k hk ks h.2 m.1 z))
 
--- the record at an index, and those after it
-record_at : (image chain xs : List ℕ) (i : ℕ) → i < length xs
-    → records_from image chain (take i xs) (drop i xs)
-    ≡ then_check (record_check image chain (tag_among image (tag_of image (get_or xs i 0)) (take i xs)) (get_or xs i 0))
-    (records_from image chain (take (i + 1) xs) (drop (i + 1) xs))
-unfolding records_from
-record_at image chain xs i h = rw (add-one, drop-cons xs i 0 h, take-suc xs i 0 h)
-
--- what the loop keeps: the checks of the records from i on are all that are left, and the tags met are marked
-pub record Recording (image marks : List ℕ) (i : ℕ) : Type 0 where
-  pub within : i ≤ length (chain_of image)
+-- what the loop keeps: the records before i passed, and their tags are marked
+pub record Recording (image : List ℕ) (marks : List Bool) (i : ℕ) : Type 0 where
   pub sized : length marks ≡ mark_count
   pub marked : Marked image marks (take i (chain_of image))
-  pub onward : records_from image (chain_of image) (take i (chain_of image)) (drop i (chain_of image)) ≡ records_check image
+  pub passed : first_refused (record_at image (chain_of image)) i ≡ Ok tt
 
-pub recording_start : (image marks : List ℕ) → length marks ≡ mark_count → Recording image marks 0
-unfolding records_check Marked
-recording_start image marks e = record { within = omega arith; sized = e; marked = tt; onward = refl }
+pub recording_start : (image : List ℕ) (marks : List Bool) → length marks ≡ mark_count → Recording image marks 0
+unfolding Marked
+recording_start image marks e = record { sized = e; marked = tt; passed = refl }
 
-pub recording_end : (image marks : List ℕ) (i : ℕ) → Recording image marks i → length (chain_of image) ≤ i → Passed ≡ records_check image
-unfolding records_from
-recording_end image marks i r l =
-    let q : i ≡ length (chain_of image) = omega (arith, r.within) in
-    let o : records_from image (chain_of image) (take i (chain_of image)) (drop i (chain_of image)) ≡ Passed = rw (q, drop-length) in
-    sym o ∙ r.onward
+pub recording_end : (image : List ℕ) (marks : List Bool) (i : ℕ) → Recording image marks i → length (chain_of image) ≡ i → Ok tt ≡ records_check image
+unfolding records_check
+recording_end image marks i r l = rw (l, r.passed)
 
 -- one turn: the slot, the place of its mark, and the verdict, as the code has them
-module _ (image marks : List ℕ) (i : ℕ) (hd : HeaderOk image) (by : Bytes image) (r : Recording image marks i) (l : i < length (chain_of image))
+module _ (image : List ℕ) (marks : List Bool) (i : ℕ) (hd : HeaderOk image) (by : Bytes image) (r : Recording image marks i) (l : i < length (chain_of image))
     (slot place : ℕ) (slot_is : slot ≡ get_or (chain_of image) i 0) (place_is : place ≡ mark_of image slot) where
-  pub not_marked : HasSlot image slot → get_or marks place 0 ≡ 0 → tag_among image (tag_of image slot) (take i (chain_of image)) ≡ false
+  pub not_marked : HasSlot image slot → get_or marks place false ≡ false → tag_among image (tag_of image slot) (take i (chain_of image)) ≡ false
   not_marked has z =
-      let y : get_or marks (mark_of image slot) 0 ≡ 0 = rw place_is at z in
+      let y : get_or marks (mark_of image slot) false ≡ false = rw place_is at z in
       unmarked image marks hd by slot has (take i (chain_of image)) (all_take (slot_count image) (chain_of image) i (chain_in image)) r.marked y
 
   module _ (v : Verdict) (v_is : v ≡ record_check image (chain_of image) (tag_among image (tag_of image slot) (take i (chain_of image))) slot) where
-    record_is : v ≡ record_check image (chain_of image) (tag_among image (tag_of image (get_or (chain_of image) i 0)) (take i (chain_of image))) (get_or (chain_of image) i 0)
+    record_is : record_at image (chain_of image) i ≡ v
     record_is = cc
 
-    pub recording_failed : (n : ℕ) (p : Place) → v ≡ Failed n p → v ≡ records_check image
-    recording_failed n p e =
-        e ∙ (sym (record_at image (chain_of image) (chain_of image) i l ∙ rw (sym record_is ∙ e)) ∙ r.onward)
+    pub recording_failed : (refusal : Refusal) → v ≡ Err refusal → Err refusal ≡ records_check image
+    unfolding records_check
+    recording_failed refusal e = sym (refused_at (record_at image (chain_of image)) i (length (chain_of image)) refusal l r.passed (record_is ∙ e))
 
-    pub recording_on : place < mark_count → v ≡ Passed → Recording image (set marks place 1) (i + 1)
+    pub recording_on : place < mark_count → v ≡ Ok tt → Recording image (set marks place true) (i + 1)
     recording_on f e =
         let w : place < length marks = omega (arith, r.sized) in
         let earlier = take i (chain_of image) in
-        let own : get_or (set marks place 1) (mark_of image slot) 0 ≡ 1 = rw (← place_is) (get_or-set_same marks place 1 0 w) in
+        let own : get_or (set marks place true) (mark_of image slot) false ≡ true = rw (← place_is) (get_or-set_same marks place true false w) in
         record {
-          within = omega arith;
           sized = simp length-set r.sized;
-          marked = rw (add-one, take-suc (chain_of image) i 0 l, ← slot_is) (marked_snoc image (set marks place 1) earlier slot (marked_more image marks earlier place w r.marked) own);
-          onward = sym (record_at image (chain_of image) (chain_of image) i l ∙ rw (sym record_is ∙ e)) ∙ r.onward;
+          marked = rw (add-one, take-suc (chain_of image) i 0 l, ← slot_is) (marked_snoc image (set marks place true) earlier slot (marked_more image marks earlier place w r.marked) own);
+          passed = refused_next (record_at image (chain_of image)) i _ r.passed (record_is ∙ e);
         }

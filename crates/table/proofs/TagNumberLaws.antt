@@ -14,7 +14,7 @@ use lib.Bits.{bit_and, bit_or, bit_xor, and_block, or_block, xor_block, and_lt, 
 use Rattle.words.specs.Word.{Bytes, number, bytes}
 use Rattle.words.proofs.WordLaws.{length_bytes, bytes_bytes, number_of_bytes, bytes_number}
 use Rattle.membership.proofs.Logic.{by_test, not_both, same, and_left, and_right, and_join}
-use Rattle.membership.proofs.MembershipLaws.{throughout, equals, agree, in_range}
+use Rattle.std.proofs.lemmas.Bool.{agree_below, agree_below_at}
 use Rattle.image.specs.Image.{tag_length}
 use Rattle.table.specs.Tag.{tag_char, spaces, padded, tag_form}
 use Rattle.table.proofs.TagLaws.{form_first, form_eight}
@@ -106,27 +106,27 @@ module _ (x e k : ℕ) (h : x < 128) (i : e ≤ 1) (l : k ≤ 1) where
       some_lt (range_lt 95 95 x k h l))
 
 -- two functions that are computed to agree on the numbers below n
-same_below : (n : ℕ) (f g : ℕ → ℕ) → throughout (agree true (λ b. eqb (f b) (g b))) 0 n ≡ true → (b : ℕ) → b < n → f b ≡ g b
-same_below n f g t b h = eqb-true (f b) (g b) (sym (in_range true (λ b. eqb (f b) (g b)) 0 n t b (omega arith) (omega arith)))
+same_below : (n : ℕ) (f g : ℕ → ℕ) → agree_below (λ b. eqb (f b) (g b)) (λ b. true) n ≡ true → (b : ℕ) → b < n → f b ≡ g b
+same_below n f g t b h = eqb-true (f b) (g b) (agree_below_at (λ b. eqb (f b) (g b)) (λ b. true) n b t h)
 
 abbrev bit : Bool → ℕ
 bit b = cond b 1 0
 
 -- bit 7 of the marks of one byte, the first one and a later one
 first_character : (b : ℕ) → b < 128 → characters b 1 0 / 128 ≡ bit (tag_char 0 b)
-unfolding characters range_marks tag_char agree equals
+unfolding characters range_marks tag_char
 first_character = same_below 128 (λ b. characters b 1 0 / 128) (λ b. bit (tag_char 0 b)) refl
 
 later_character : (b : ℕ) → b < 128 → characters b 1 1 / 128 ≡ bit (tag_char 1 b)
-unfolding characters range_marks tag_char agree equals
+unfolding characters range_marks tag_char
 later_character = same_below 128 (λ b. characters b 1 1 / 128) (λ b. bit (tag_char 1 b)) refl
 
 first_space : (b : ℕ) → b < 128 → range_marks 32 32 b 0 / 128 ≡ bit false
-unfolding range_marks agree equals
+unfolding range_marks
 first_space = same_below 128 (λ b. range_marks 32 32 b 0 / 128) (λ b. bit false) refl
 
 later_space : (b : ℕ) → b < 128 → range_marks 32 32 b 1 / 128 ≡ bit (eqb b 0x20)
-unfolding range_marks agree equals
+unfolding range_marks
 later_space = same_below 128 (λ b. range_marks 32 32 b 1 / 128) (λ b. bit (eqb b 0x20)) refl
 
 -- bit 7 alone

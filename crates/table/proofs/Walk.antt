@@ -10,8 +10,9 @@ use lib.Dec.{ltb, eqb}
 use Rattle.membership.specs.Membership.{among}
 use Rattle.image.specs.Image.{slot_count, head_slot, next_of}
 use Rattle.table.specs.Walk.{Walked, Met, Stopped, Walk, ends, above, again, onward, at_link, unmet, walk_in, walk_from, walked, WalkByRules}
-use Rattle.table.specs.declared.place.Place.{Place}
-use Rattle.table.specs.declared.place.Place.TheVariants.{Header, Slot}
+use Rattle.refusal.specs.declared.Place.{Place}
+use Rattle.refusal.specs.declared.Place.TheVariants.{Header, Slot}
+use Rattle.refusal.specs.declared.Check.TheVariants.{LinkAbove, LinkAgain}
 use Rattle.membership.proofs.Logic.{by_test}
 use Rattle.membership.proofs.AmongLaws.{among_snoc}
 
@@ -83,10 +84,10 @@ module _ (image met : List ℕ) (from : Place) (at : ℕ) where
   pub walk_ends : at ≡ 0 → walk_from image met from at ≡ Met met
   walk_ends z = walk_rule image met from at ∙ simp (eq-eqb _ _ z)
 
-  pub walk_above : slot_count image < at → walk_from image met from at ≡ Stopped 5 from
+  pub walk_above : slot_count image < at → walk_from image met from at ≡ Stopped LinkAbove from
   walk_above h = walk_rule image met from at ∙ simp (ne_eqb at 0 (λ z. omega arith), lt-ltb _ _ h)
 
-  pub walk_again : 0 < at → at ≤ slot_count image → among at met ≡ true → walk_from image met from at ≡ Stopped 6 from
+  pub walk_again : 0 < at → at ≤ slot_count image → among at met ≡ true → walk_from image met from at ≡ Stopped LinkAgain from
   walk_again z h m = walk_rule image met from at ∙ simp (ne_eqb at 0 (λ q. omega arith), le-ltb _ _ h, m)
 
   pub walk_onward : 0 < at → at ≤ slot_count image → among at met ≡ false

@@ -16,6 +16,7 @@ use Rattle.image.specs.Image.{slot_length, slot_count, slot_start, slot_byte, wi
 use Rattle.table.specs.Chain.{chain_of}
 use Rattle.table.specs.Record.{no_wire, wire_ok}
 use Rattle.table.specs.Blocks.{from_frame, wire_of}
+use Rattle.std.specs.Prelude.{is_none}
 use Rattle.table.proofs.ChainLaws.{chain_in}
 
 -- two bytes of a slot are zero where their number is
@@ -35,9 +36,9 @@ zero_wires image slot h =
     sym (zero_at_lem 4 at image) ∙ zero_split 2 2 at image
     ∙ rw (e, zero_at_lem 2 at image, zero_at_lem 2 (slot_start slot + abort_wire_offset) image, slot_pair_zero image slot start_wire_offset h (omega arith), slot_pair_zero image slot abort_wire_offset h (omega arith))
 
--- no wire is the frame's bit
-pub none_frame : (chain : List ℕ) (slot code : ℕ) → no_wire slot code ≡ true → wire_of chain slot code ≡ from_frame
-none_frame chain slot code h = simp (and_left (eqb slot 0) (eqb code 0) h)
+-- two bytes in form are zero exactly where there is no wire
+pub none_bytes : (chain : List ℕ) (slot code : ℕ) → wire_ok chain slot code ≡ true → no_wire slot code ≡ is_none (wire_of chain slot code)
+none_bytes chain slot code h = by_test (eqb slot 0) (λ z. simp z (simp z at h)) (λ z. simp z)
 
 -- no chain has slot 0
 pub zero_off_chain : (image : List ℕ) → among 0 (chain_of image) ≡ false

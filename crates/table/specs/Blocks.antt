@@ -1,25 +1,34 @@
 -- The table as a list of blocks, in chain order, with wires by position: all that the layers above know of a table.
-use Rattle.std.specs.Prelude.{ℕ, ◌%◌, List, [], ◌∷◌, false, cond, leb, eqb, get_or}
+use Rattle.std.specs.Prelude.{ℕ, ◌%◌, List, [], ◌∷◌, Option, None, Some, is_none, Bool, ◌&&◌, cond, leb, eqb, get_or}
 use Rattle.image.specs.Image.{kind_of, wire_slot, wire_code, start_wire_offset, abort_wire_offset, tag_of}
 use Rattle.table.specs.Chain.{chain_of, position_of}
+use Rattle.table.specs.declared.blocks.Flag.{Flag}
+use Rattle.table.specs.declared.blocks.Flag.TheVariants.{Busy, Done, Error, Aborted}
 use Rattle.table.specs.declared.blocks.Wire.{Wire}
-use Rattle.table.specs.declared.blocks.BlockConfig.{BlockConfig}
 
--- "Wire slot 0 takes the input bit from the frame"
-abbrev pub from_frame : Wire
-from_frame = record { position = 0; flag = 0; inverted = false }
+-- "Wire slot 0 takes the input bit from the frame": there is no wire
+abbrev pub from_frame : Option Wire
+from_frame = None
 
--- "bits 0-1 = flag (0 busy, 1 done, 2 error, 3 aborted) and bit 7 = inverted": a flag of the block at the slot's position
-abbrev pub wire_of : List ℕ → ℕ → ℕ → Wire
+-- "bits 0-1 = flag (0 busy, 1 done, 2 error, 3 aborted)"
+abbrev pub flag_named : ℕ → Flag
+flag_named code = cond (eqb (code % 4) 0) Busy (cond (eqb (code % 4) 1) Done (cond (eqb (code % 4) 2) Error Aborted))
+
+-- "and bit 7 = inverted": a flag of the block at the slot's position
+abbrev pub wire_of : List ℕ → ℕ → ℕ → Option Wire
 wire_of chain slot code =
-    cond (eqb slot 0) from_frame (record { position = position_of slot chain; flag = code % 4; inverted = leb 128 code })
+    cond (eqb slot 0) from_frame (Some (record { position = position_of slot chain; flag = flag_named code; inverted = leb 128 code }))
 
 -- one block
 pub record Block : Type 0 where
   pub kind : ℕ
   pub tag : List ℕ
-  pub start : Wire
-  pub abort : Wire
+  pub start : Option Wire
+  pub abort : Option Wire
+
+-- both inputs are the frame's bits
+abbrev pub is_unwired : Block → Bool
+is_unwired b = is_none b.start && is_none b.abort
 
 -- the block in a slot
 unfoldable pub block_in : List ℕ → List ℕ → ℕ → Block
@@ -47,5 +56,10 @@ abbrev pub block_at : List Block → ℕ → Block
 block_at blocks i = get_or blocks i no_block
 
 -- what a call reads of it: no call reads a tag
+pub record BlockConfig : Type 0 where
+  pub kind : ℕ
+  pub start : Option Wire
+  pub abort : Option Wire
+
 abbrev pub config_at : List Block → ℕ → BlockConfig
 config_at blocks i = record { kind = (block_at blocks i).kind; start = (block_at blocks i).start; abort = (block_at blocks i).abort }

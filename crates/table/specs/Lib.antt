@@ -1,4 +1,3 @@
-pub mod Place
 pub mod Header
 pub mod Tag
 pub mod Walk

@@ -1,14 +1,13 @@
 -- Document 01, checks 7 to 10: the records, "in chain order, each through 7, 8, 9, 10 before the next".
-use Rattle.std.specs.Prelude.{ℕ, ◌+◌, ◌%◌, List, [], ◌∷◌, ◌++◌, Bool, false, cond, not, ◌&&◌, ◌||◌, ltb, eqb}
+use Rattle.std.specs.Prelude.{ℕ, ◌+◌, ◌%◌, List, [], ◌∷◌, Bool, Ok, false, cond, not, ◌&&◌, ◌||◌, ltb, eqb, length, get_or, take}
 use Rattle.kind.specs.Kind.{is_kind, has_abort}
 use Rattle.membership.specs.Membership.{among}
-use Rattle.table.specs.Place.{require, then_check}
+use Rattle.refusal.specs.Refusal.{Verdict, require, first_refused}
 use Rattle.image.specs.Image.{zero_offset, slot_byte, kind_of, wire_slot, wire_code, start_wire_offset, abort_wire_offset, tag_of}
 use Rattle.table.specs.Tag.{tag_form, same_bytes}
 use Rattle.table.specs.Chain.{chain_of}
-use Rattle.table.specs.declared.place.Place.TheVariants.{Slot}
-use Rattle.table.specs.declared.place.Verdict.{Verdict}
-use Rattle.table.specs.declared.place.Verdict.TheVariants.{Passed}
+use Rattle.refusal.specs.declared.Place.TheVariants.{Slot}
+use Rattle.refusal.specs.declared.Check.TheVariants.{RecordKind, TagForm, TagAgain, WireForm}
 
 -- 7: "kind, or bytes 6-7"
 abbrev pub kind_ok : List ℕ → ℕ → Bool
@@ -40,19 +39,16 @@ abort_ok image chain slot =
 -- one record; `repeated`: its tag is that of an earlier block
 unfoldable pub record_check : List ℕ → List ℕ → Bool → ℕ → Verdict
 record_check image chain repeated slot =
-    require (kind_ok image slot) 7 (Slot slot)
-    (require (tag_form (tag_of image slot)) 8 (Slot slot)
-    (require (not repeated) 9 (Slot slot)
-    (require (start_ok image chain slot) 10 (Slot slot)
-    (require (abort_ok image chain slot) 10 (Slot slot)
-    Passed))))
+    require (kind_ok image slot) RecordKind (Slot slot)
+    (require (tag_form (tag_of image slot)) TagForm (Slot slot)
+    (require (not repeated) TagAgain (Slot slot)
+    (require (start_ok image chain slot) WireForm (Slot slot)
+    (require (abort_ok image chain slot) WireForm (Slot slot)
+    (Ok tt)))))
 
--- the records of some slots, after those of `earlier`
-unfoldable pub records_from : List ℕ → List ℕ → List ℕ → List ℕ → Verdict
-records_from image chain earlier [] = Passed
-records_from image chain earlier (slot ∷ rest) =
-    then_check (record_check image chain (tag_among image (tag_of image slot) earlier) slot)
-    (records_from image chain (earlier ++ (slot ∷ [])) rest)
+-- the record of block i of a chain, from 0, whose earlier blocks stand before it
+abbrev pub record_at : List ℕ → List ℕ → ℕ → Verdict
+record_at image chain i = record_check image chain (tag_among image (tag_of image (get_or chain i 0)) (take i chain)) (get_or chain i 0)
 
 unfoldable pub records_check : List ℕ → Verdict
-records_check image = records_from image (chain_of image) [] (chain_of image)
+records_check image = first_refused (record_at image (chain_of image)) (length (chain_of image))

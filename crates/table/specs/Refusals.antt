@@ -1,9 +1,9 @@
 -- Every refusal of check and find, computed from bytes: a row for each way to be turned back, with its number and place, beside the nearest bytes that
 -- pass. Rows and what is said of them are for any entry point, so that the layers above can state theirs the same way. Proved in proofs/Refusals.antt.
 use Rattle.std.specs.Prelude.{ℕ, ◌≡◌, List, [], ◌∷◌, ◌++◌, map, set, take, drop, replicate}
-use Rattle.table.specs.Place.{Answer, value, refusal}
-use Rattle.table.specs.Check.{check_of, checked_answer}
-use Rattle.table.specs.Lookup.{find_of, found_answer}
+use Rattle.refusal.specs.Refusal.{Answer, value, refusal, answer_of}
+use Rattle.table.specs.Check.{check_of}
+use Rattle.table.specs.Lookup.{find_of}
 
 -- what an entry point is given, and the answer that is due
 infix 70 ◌gives◌
@@ -255,5 +255,5 @@ find_rows =
 
 -- theorem table_refusals: check and find answer these rows so
 pub record TableRefusals : Type 0 where
-  pub check : AnswersAll (λ image. checked_answer (check_of image)) check_rows
-  pub find : AnswersAll (λ given. found_answer (find_of given.0 given.1)) find_rows
+  pub check : AnswersAll (λ image. answer_of (check_of image)) check_rows
+  pub find : AnswersAll (λ given. answer_of (find_of given.0 given.1)) find_rows

@@ -1,6 +1,6 @@
 -- Which images are accepted tables, said by their chain and not by a walk, and what the blocks of an accepted table are: for whoever writes a
--- table. The statements at the end are proved in proofs/Table.antt.
-use Rattle.std.specs.Prelude.{ℕ, ◌≤◌, ◌<◌, ◌≡◌, List, [], ◌∷◌, true, false, length, get_or}
+-- table. The statements at the end are proved in proofs/TableLaws.antt.
+use Rattle.std.specs.Prelude.{ℕ, ◌≤◌, ◌<◌, ◌≡◌, List, [], ◌∷◌, Option, IfSome, Ok, true, false, length, get_or}
 use Rattle.kind.specs.Kind.{is_kind, has_abort}
 use Rattle.membership.specs.Membership.{among}
 use Rattle.image.specs.Image.{most_slots, slot_count, head_slot, next_of, tag_of, slot_bytes}
@@ -11,8 +11,6 @@ use Rattle.table.specs.Record.{kind_ok, start_ok, abort_ok}
 use Rattle.words.specs.Word.{all_zero}
 use Rattle.table.specs.Check.{check_of}
 use Rattle.table.specs.Blocks.{Block, from_frame, blocks_of, block_at}
-use Rattle.table.specs.declared.place.Verdict.TheVariants.{Passed}
-use Rattle.table.specs.declared.check.Checked.TheVariants.{Blocks}
 use Rattle.table.specs.declared.blocks.Wire.{Wire}
 
 -- "from the head to the zero that ends it": from slot `at` on, the links lead through these slots, in order, to a zero
@@ -34,7 +32,7 @@ pub record RecordOk (image chain : List ℕ) (slot : ℕ) : Type 0 where
 -- an image is a table with these slots as its chain
 pub record Table (image chain : List ℕ) : Type 0 where
   -- 1 to 4
-  pub header : header_check image ≡ Passed
+  pub header : header_check image ≡ Ok tt
   -- 5 and 6
   pub linked : Linked image (head_slot image) chain
   pub within : (i : ℕ) → i < length chain → (0 < get_or chain i 0) × (get_or chain i 0 ≤ slot_count image)
@@ -45,11 +43,9 @@ pub record Table (image chain : List ℕ) : Type 0 where
   -- 11
   pub spares : (slot : ℕ) → 0 < slot → slot ≤ slot_count image → among slot chain ≡ false → all_zero (slot_bytes image slot) ≡ true
 
--- a wire of a table of n blocks: a flag 0 to 3 of a block, or the frame's bit
-pub record WireFits (n : ℕ) (w : Wire) : Type 0 where
-  pub within : w.position ≤ n
-  pub flag : w.flag < 4
-  pub frame : w.position ≡ 0 → w ≡ from_frame
+-- a wire of a table of n blocks, where there is one: it names a flag of a block
+abbrev pub WireFits : ℕ → Option Wire → Type 0
+WireFits n wire = IfSome wire (λ w. (0 < w.position) × (w.position ≤ n))
 
 -- one block of a table of n blocks
 pub record BlockOk (n : ℕ) (b : Block) : Type 0 where
@@ -68,11 +64,11 @@ pub record BlocksOk (blocks : List Block) : Type 0 where
 
 -- theorems table_accepted and accepted_table: an image is accepted exactly when its chain makes it a table
 abbrev pub TableAccepted : Type 0
-TableAccepted = (image chain : List ℕ) → Table image chain → (chain_of image ≡ chain) × (check_of image ≡ Blocks (length chain))
+TableAccepted = (image chain : List ℕ) → Table image chain → (chain_of image ≡ chain) × (check_of image ≡ Ok (length chain))
 
 abbrev pub AcceptedTable : Type 0
-AcceptedTable = (image : List ℕ) (n : ℕ) → check_of image ≡ Blocks n → Table image (chain_of image)
+AcceptedTable = (image : List ℕ) (n : ℕ) → check_of image ≡ Ok n → Table image (chain_of image)
 
 -- theorem blocks_ok: what the blocks of an accepted table are
 abbrev pub AcceptedBlocksOk : Type 0
-AcceptedBlocksOk = (image : List ℕ) (n : ℕ) → check_of image ≡ Blocks n → BlocksOk (blocks_of image)
+AcceptedBlocksOk = (image : List ℕ) (n : ℕ) → check_of image ≡ Ok n → BlocksOk (blocks_of image)

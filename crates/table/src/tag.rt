@@ -1,11 +1,12 @@
 // Tags: one or more of A-Z, 0-9 and, except first, the underscore, then spaces to eight bytes.
-ghost use Rattle.std.specs.Prelude.{◌≡◌, ◌+◌, ◌-◌, ◌*◌, ◌≤◌};
+ghost use Rattle.std.specs.Prelude.{◌≡◌, ◌+◌, ◌-◌, ◌*◌, ◌≤◌, length};
 ghost use Rattle.std.specs.Int.Bits.{bit_xor};
 ghost use Rattle.words.specs.Word.{number, bytes};
 ghost use Rattle.image.specs.Image.{tag_length, tag_of, HasSlot};
-ghost use Rattle.table.specs.Tag.{tag_form};
+ghost use Rattle.table.specs.Tag.{tag_form, same_bytes};
 
 use image::{TAG_LENGTH, TAG_OFFSET, slot_start};
+use words::read_at;
 
 // Bit 7 of each of the eight bytes of a number.
 const HIGH: u64 = 0x8080808080808080;
@@ -47,7 +48,7 @@ pub fn tag_form(tag: &[u8]) -> bool
     if tag.len() != TAG_LENGTH {
         return false;
     }
-    number_form(words::u64_at(tag, 0))
+    number_form(read_at::<u64>(tag, 0))
 }
 
 // Whether a slot's tag is in form.
@@ -63,5 +64,14 @@ pub fn tag_number(image: &[u8], slot: u8) -> u64
     requires { HasSlot image.now slot }
     ensures { result ≡ number (tag_of image.now slot) }
 {
-    words::u64_at(image, slot_start(slot) + TAG_OFFSET)
+    read_at::<u64>(image, slot_start(slot) + TAG_OFFSET)
+}
+
+/// Whether a slot has this tag, of eight bytes.
+pub fn has_tag(image: &[u8], slot: u8, tag: &[u8]) -> bool
+    requires has_slot { HasSlot image.now slot }
+    requires eight { length tag.now ≡ tag_length }
+    ensures { result ≡ same_bytes (tag_of image.now slot) tag.now }
+{
+    tag_number(image, slot) == read_at::<u64>(tag, 0)
 }

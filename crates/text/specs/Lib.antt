@@ -1,2 +1,3 @@
 pub mod Ascii
+pub mod Page
 pub mod Text

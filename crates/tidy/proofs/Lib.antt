@@ -5,5 +5,4 @@ pub mod KeptLaws
 pub mod EncodedTable
 pub mod EncodeLaws
 pub mod TidyLaws
-pub mod AnswerLaws
 pub mod Refusals

@@ -5,7 +5,6 @@ use mathlib.Core.Path.{◌≡◌, refl, ap, sym, ◌∙◌}
 use mathlib.Core.List.{List, [], ◌∷◌, ◌++◌, append_assoc, append-nil}
 use native.Mathlib.Omega.{arith}
 use native.Mathlib.Nat.{add-zero}
-use borrow.Author.Tests.{ne_eqb}
 use lib.ListN.{length, get_or, take, drop, length-append}
 use lib.Seq.{drop-append-add, take_at, take-suc, drop-drop, get_or-drop, length-take-le}
 use Rattle.image.specs.Image.{
@@ -25,7 +24,7 @@ use Rattle.image.specs.Image.{
   tag_of,
 }
 use Rattle.table.specs.Blocks.{Block, no_block, block_at}
-use Rattle.tidy.specs.Encode.{encode_code, encode_next, encode_slot, encode_slots, encode_table, encoded_length}
+use Rattle.tidy.specs.Encode.{encode_position, encode_code, encode_next, encode_slot, encode_slots, encode_table, encoded_length}
 
 -- every tag has its eight bytes
 abbrev pub Tagged : List Block → Type 0
@@ -72,9 +71,9 @@ slots_more n k bs i l =
 pub record SlotHas (bs : List Block) (i : ℕ) : Type 0 where
   pub kind : kind_of (encode_table bs) (suc i) ≡ (block_at bs i).kind
   pub next : next_of (encode_table bs) (suc i) ≡ encode_next (length bs) (suc i)
-  pub start : wire_slot (encode_table bs) (suc i) start_wire_offset ≡ (block_at bs i).start.position
+  pub start : wire_slot (encode_table bs) (suc i) start_wire_offset ≡ encode_position (block_at bs i).start
   pub start_code : wire_code (encode_table bs) (suc i) start_wire_offset ≡ encode_code (block_at bs i).start
-  pub abort : wire_slot (encode_table bs) (suc i) abort_wire_offset ≡ (block_at bs i).abort.position
+  pub abort : wire_slot (encode_table bs) (suc i) abort_wire_offset ≡ encode_position (block_at bs i).abort
   pub abort_code : wire_code (encode_table bs) (suc i) abort_wire_offset ≡ encode_code (block_at bs i).abort
   pub zero_first : slot_byte (encode_table bs) (suc i) zero_offset ≡ 0
   pub zero_second : slot_byte (encode_table bs) (suc i) (zero_offset + 1) ≡ 0
@@ -119,4 +118,4 @@ module _ (bs : List Block) (tagged : Tagged bs) (i : ℕ) (l : i < length bs) wh
 pub table_length : (bs : List Block) → Tagged bs → length (encode_table bs) ≡ encoded_length (length bs)
 unfolding encode_table
 table_length [] t = refl
-table_length (b ∷ bs) t = simp (ne_eqb (length (b ∷ bs)) 0 (λ z. omega arith)) (omega (arith, slots_length (length (b ∷ bs)) 1 (b ∷ bs) t))
+table_length (b ∷ bs) t = omega (arith, slots_length (length (b ∷ bs)) 1 (b ∷ bs) t)

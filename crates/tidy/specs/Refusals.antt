@@ -1,8 +1,7 @@
 -- Every refusal of tidying below the table's, computed from bytes, beside the nearest lengths that pass. What a row is stands in crate table under the same
 -- name. Proved in proofs/Refusals.antt.
 use Rattle.std.specs.Prelude.{ℕ, List, [], ◌∷◌, set, replicate}
-use Rattle.table.specs.Place.{value, refusal}
-use Rattle.table.specs.Check.{checked_answer}
+use Rattle.refusal.specs.Refusal.{value, refusal, answer_of}
 use Rattle.table.specs.Refusals.{Row, ◌gives◌, AnswersAll, image}
 use Rattle.tidy.specs.Tidy.{tidy_into}
 use Rattle.tidy.specs.TidyExample.{no_blocks}
@@ -32,4 +31,4 @@ tidy_rows =
 
 -- theorem tidy_refusals: tidying answers these rows so
 abbrev pub TidyRefusals : Type 0
-TidyRefusals = AnswersAll (λ given. checked_answer (tidy_into given.0 (replicate given.1 255)).answer) tidy_rows
+TidyRefusals = AnswersAll (λ given. answer_of (tidy_into given.0 (replicate given.1 255)).answer) tidy_rows

@@ -1,5 +1,6 @@
 -- What came is the front of a buffer, and all that it is printed of: for the proofs of `read_input` and `print_totals`.
-use Rattle.std.proofs.Common.{◌≡◌, ℕ, ◌+◌, ◌≤◌, ◌<◌, ◌⊎◌, inl, inr, List, ◌++◌, None, Some, IfSome, length, take, drop, sym, ap, subst, ◌∙◌, append-nil, length-append, arith, drop_at, length-take-le}
+use Rattle.std.proofs.Common.{◌≡◌, ℕ, ◌+◌, ◌≤◌, ◌<◌, ◌⊎◌, inl, inr, List, ◌++◌, None, Some, IfSome, Result, Ok, Err, IfOk, is_ok, true, false, length, take, drop, sym, ap, subst, ◌∙◌, append-nil, length-append, arith, drop_at, length-take-le}
+use Rattle.std.specs.Prelude.{MatchResult}
 use Rattle.std.specs.Io.KnownBytes.{Appends, Consumes, IsAtEnd}
 use Rattle.std.proofs.lemmas.Bool.{cases_lt}
 use Rattle.std.proofs.lemmas.Slice.{take-put_mid_below}
@@ -43,3 +44,9 @@ ended_or_full {P = P} count buffer within room ends = by_room (cases_lt count (l
 -- the text that stands at the front of a buffer
 pub text_front : (text rest after : List ℕ) (end : ℕ) → end ≡ length text → after ≡ text ++ rest → take end after ≡ text
 text_front text rest after end ends holds = ap (λ z. take z after) ends ∙ ap (take (length text)) holds ∙ take-append_seam text rest
+
+-- what holds of a value whose error was only renamed
+pub renamed_has : {A E D : Type 0} (P : A → Type 0) (Q : E → Type 0) (before : Result A E) (after : Result A D) (x : A)
+    → IfOk before P → MatchResult before (λ y. after ≡ Ok y) Q → is_ok after ≡ is_ok before → after ≡ Ok x → P x
+renamed_has P Q (Ok y) after x holds same variant is = let e : y ≡ x = cc in subst P e holds
+renamed_has P Q (Err f) after x holds same variant is = let e : false ≡ true = sym variant ∙ ap is_ok is in cc

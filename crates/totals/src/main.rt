@@ -2,7 +2,7 @@
 
 // Shift totals: reads a table and then a journal from standard input, and prints the sheet, or the number of the refusal. All that it prints on
 // standard output is what `sheet::totals::totals` makes of the bytes that came.
-ghost use Rattle.std.specs.Prelude.{◌≡◌, ◌≤◌, ◌<◌, IfErr, IfSome, IsNone, OnOk, length, take};
+ghost use Rattle.std.specs.Prelude.{◌≡◌, ◌≤◌, ◌<◌, IfErr, IfOk, IfSome, OnOk, length, take};
 ghost use Rattle.std.specs.Io.KnownBytes.{Appends, Consumes, IsAtEnd, Keeps};
 ghost use Rattle.sheet.specs.Totals.{totals_of};
 ghost use Rattle.totals.specs.Failure.{IsOfInput};
@@ -16,48 +16,22 @@ use std::io::{ErrorKind, Read, Write};
 // One byte more than an input may have, so that a longer one is seen.
 const INPUT_ROOM: usize = MOST_INPUT + 1;
 
-// The `ensures` gives the length, which lending the buffer needs.
-fn input_buffer() -> [u8; INPUT_ROOM]
-    ensures { 65537 ≡ length result }
-{
-    [0; INPUT_ROOM]
-}
-
-// How many bytes came, and the read that failed after them, if one did.
-#[derive(Drop)]
-struct Input {
-    count: usize,
-    failed: Option<io::Error>,
-}
-
-// Reads until the buffer is full, the input ends or a read fails: a pipe may give any part at a time.
-fn read_input<R: Read>(reader: &mut R, input: &mut [u8]) -> Input
-    ensures count { (result.count ≤ length input.new) × (result.count ≡ length (take result.count input.new)) }
-    ensures came { Consumes (R.remaining reader.old) (R.remaining reader.new) (take result.count input.new) }
-    ensures all { IsNone result.failed → result.count < length input.new → IsAtEnd (R.remaining reader.new) }
+// Reads until the buffer is full, the input ends or a read fails: a pipe may give any part at a time. How many bytes came.
+// A loop over `read`, not std's `read_to_end`, whose contract says little of a read that fails in mid-stream.
+fn read_input<R: Read>(reader: &mut R, input: &mut [u8]) -> io::Result<usize>
+    ensures count { IfOk result (λ count. (count ≤ length input.new) × (count ≡ length (take count input.new))) }
+    ensures came { IfOk result (λ count. Consumes (R.remaining reader.old) (R.remaining reader.new) (take count input.new)) }
+    ensures all { IfOk result (λ count. count < length input.new → IsAtEnd (R.remaining reader.new)) }
 {
     let mut count = 0;
     while count < input.len() {
-        match reader.read(&mut input[count..]) {
-            Ok(0) => {
-                return Input {
-                    count,
-                    failed: None,
-                };
-            }
-            Ok(more) => count += more,
-            Err(error) => {
-                return Input {
-                    count,
-                    failed: Some(error),
-                };
-            }
+        let more = reader.read(&mut input[count..])?;
+        if more == 0 {
+            return Ok(count);
         }
+        count += more;
     }
-    Input {
-        count,
-        failed: None,
-    }
+    Ok(count)
 }
 
 // Why there is no sheet, or not all of it.
@@ -73,18 +47,12 @@ fn print_totals<R: Read, W: Write>(reader: &mut R, writer: &mut W) -> Result<(),
         (λ input. Appends (W.contents writer.old) (W.contents writer.new) (totals_of input))) }
     ensures unread { IfErr result (λ failure. IsOfInput failure → Keeps (W.contents writer.old) (W.contents writer.new)) }
 {
-    let mut input = input_buffer();
-    let came = read_input(reader, &mut input);
-    let count = came.count;
-    if let Some(error) = came.failed {
-        return Err(Failure::Input(error));
-    }
+    let mut input = [0; INPUT_ROOM];
+    let count = read_input(reader, &mut input).map_err(Failure::Input)?;
     let mut out = [0u8; SHEET_ROOM];
     let end = totals(&input[..count], &mut out);
-    match writer.write_all(&out[..end]) {
-        Ok(()) => Ok(()),
-        Err(error) => Err(Failure::Output(error)),
-    }
+    writer.write_all(&out[..end]).map_err(Failure::Output)?;
+    Ok(())
 }
 
 fn has_arguments(rt: &impl Env) -> bool {

@@ -8,7 +8,7 @@ ghost use Rattle.walker.specs.Next.{next_slot};
 
 use image::{HEAD_OFFSET, NEXT_OFFSET, slot_byte};
 
-#[derive(Clone, Copy)]
+#[derive(Clone, Copy, Debug, PartialEq, Eq)]
 pub struct Walker<'a> {
     pub image: &'a [u8],
     pub slot: u8,

@@ -1,88 +1,118 @@
 #![tactic(auto)]
 
-// Little-endian numbers in bytes. One function a width; the laws are stated once, over the width.
-ghost use Rattle.std.specs.Prelude.{◌≡◌, ◌+◌, ◌≤◌, ◌++◌, length, drop};
-ghost use Rattle.words.specs.Word.{bytes, number_at};
+// Little-endian numbers in bytes, at each width by one trait.
+ghost use Rattle.std.specs.Prelude.{◌≡◌, ◌+◌, ◌≤◌, ◌++◌, ℕ, take, drop, length};
+ghost use Rattle.words.specs.Word.{number, bytes, number_at, put};
 
-// The number in two bytes.
-pub fn u16_at(s: &[u8], at: usize) -> u16
-    requires { at + 2 ≤ length s.now }
-    ensures { result ≡ number_at 2 s.now at }
-{
-    let low = s[at];
-    let high = s[at + 1];
-    low as u16 + 256 * (high as u16)
+/// A number that stands in so many bytes, the lowest first.
+pub trait Word: Copy {
+    ghost width: { ℕ };
+
+    ghost value: { Self → ℕ };
+
+    /// How many bytes it takes.
+    fn width() -> usize
+        ensures { result ≡ width };
+
+    /// The number in just these bytes.
+    fn of_bytes(s: &[u8]) -> Self
+        requires { length s.now ≡ width }
+        ensures { value result ≡ number s.now };
+
+    /// Its bytes, written over just these.
+    fn write(self, out: &mut [u8])
+        requires { length out.old ≡ width }
+        ensures { out.new ≡ bytes width (value self) };
 }
 
-// The number in four bytes.
-pub fn u32_at(s: &[u8], at: usize) -> u32
-    requires { at + 4 ≤ length s.now }
-    ensures { result ≡ number_at 4 s.now at }
-{
-    let low = u16_at(s, at);
-    let high = u16_at(s, at + 2);
-    low as u32 + 65536 * (high as u32)
+#[tactic(auto, unfolding(crate::specs::Word::bytes, crate::specs::Word::number))]
+impl Word for u8 {
+    ghost width = { 1 };
+
+    ghost value = { λ n. n };
+
+    fn width() -> usize {
+        1
+    }
+
+    fn of_bytes(s: &[u8]) -> u8 {
+        s[0]
+    }
+
+    fn write(self, out: &mut [u8]) {
+        out[0] = self;
+    }
 }
 
-// The number in eight bytes.
-pub fn u64_at(s: &[u8], at: usize) -> u64
-    requires { at + 8 ≤ length s.now }
-    ensures { result ≡ number_at 8 s.now at }
-{
-    let low = u32_at(s, at);
-    let high = u32_at(s, at + 4);
-    low as u64 + 4294967296 * (high as u64)
+#[tactic(auto, unfolding(crate::specs::Word::bytes, crate::specs::Word::number))]
+impl Word for u16 {
+    ghost width = { 2 };
+
+    ghost value = { λ n. n };
+
+    fn width() -> usize {
+        2
+    }
+
+    fn of_bytes(s: &[u8]) -> u16 {
+        u16::from_le_bytes([s[0], s[1]])
+    }
+
+    fn write(self, out: &mut [u8]) {
+        out.copy_from_slice(&u16::to_le_bytes(self));
+    }
 }
 
-// The two bytes of a number.
-pub fn u16_bytes(x: u16) -> [u8; 2]
-    ensures { result ≡ bytes 2 x }
-{
-    [(x % 256) as u8, (x / 256 % 256) as u8]
+#[tactic(auto, unfolding(crate::specs::Word::bytes, crate::specs::Word::number))]
+impl Word for u32 {
+    ghost width = { 4 };
+
+    ghost value = { λ n. n };
+
+    fn width() -> usize {
+        4
+    }
+
+    fn of_bytes(s: &[u8]) -> u32 {
+        u32::from_le_bytes([s[0], s[1], s[2], s[3]])
+    }
+
+    fn write(self, out: &mut [u8]) {
+        out.copy_from_slice(&u32::to_le_bytes(self));
+    }
 }
 
-// The four bytes of a number.
-pub fn u32_bytes(x: u32) -> [u8; 4]
-    ensures { result ≡ bytes 4 x }
-{
-    let x1 = x / 256;
-    let x2 = x1 / 256;
-    let x3 = x2 / 256;
-    [
-        (x % 256) as u8,
-        (x1 % 256) as u8,
-        (x2 % 256) as u8,
-        (x3 % 256) as u8,
-    ]
+#[tactic(auto, unfolding(crate::specs::Word::bytes, crate::specs::Word::number))]
+impl Word for u64 {
+    ghost width = { 8 };
+
+    ghost value = { λ n. n };
+
+    fn width() -> usize {
+        8
+    }
+
+    fn of_bytes(s: &[u8]) -> u64 {
+        u64::from_le_bytes([s[0], s[1], s[2], s[3], s[4], s[5], s[6], s[7]])
+    }
+
+    fn write(self, out: &mut [u8]) {
+        out.copy_from_slice(&u64::to_le_bytes(self));
+    }
 }
 
-// The eight bytes of a number.
-pub fn u64_bytes(x: u64) -> [u8; 8]
-    ensures { result ≡ bytes 8 x }
+/// The number in the `W::width()` bytes from the place `at` on, lowest byte first.
+pub fn read_at<W: Word>(s: &[u8], at: usize) -> W
+    requires { at + W.width ≤ length s.now }
+    ensures { W.value result ≡ number_at W.width s.now at }
 {
-    let x1 = x / 256;
-    let x2 = x1 / 256;
-    let x3 = x2 / 256;
-    let x4 = x3 / 256;
-    let x5 = x4 / 256;
-    let x6 = x5 / 256;
-    let x7 = x6 / 256;
-    [
-        (x % 256) as u8,
-        (x1 % 256) as u8,
-        (x2 % 256) as u8,
-        (x3 % 256) as u8,
-        (x4 % 256) as u8,
-        (x5 % 256) as u8,
-        (x6 % 256) as u8,
-        (x7 % 256) as u8,
-    ]
+    W::of_bytes(&s[at..at + W::width()])
 }
 
-// Copies bytes to the front of a buffer; the rest of it stays.
-pub fn copy(from: &[u8], out: &mut [u8])
-    requires { length from.now ≤ length out.old }
-    ensures { out.new ≡ from.now ++ drop (length from.now) out.old }
+/// A number written in the `W::width()` bytes from the place `at` on, lowest byte first; the rest stays.
+pub fn put_at<W: Word>(out: &mut [u8], at: usize, word: W)
+    requires { at + W.width ≤ length out.old }
+    ensures { out.new ≡ put at (bytes W.width (W.value word)) out.old }
 {
-    out[..from.len()].copy_from_slice(from);
+    word.write(&mut out[at..at + W::width()]);
 }

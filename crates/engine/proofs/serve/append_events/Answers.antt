@@ -1,23 +1,32 @@
--- `serve::append_events` meets its contract, by the number of events.
-use Rattle.engine.proofs.ServeLaws.{append_none, append_one, append_two}
+-- `serve::append_events` meets its contract, by which events there are.
+use Rattle.std.proofs.Common.{sym, append-nil, ◌+◌, ◌*◌}
+use Rattle.layout.specs.Buffer.{event_length}
+use Rattle.layout.specs.EventLayout.{encode_event, encode_events}
+use Rattle.layout.proofs.BufferLaws.{put_nothing, put_front}
+use Rattle.layout.proofs.EventLaws.{event_length_lem}
+use Rattle.engine.proofs.ServeLaws.{append_two}
 use Rattle.engine.proofs.serve.append_events.Goals as goal
 
-pub returns-then-a-eq0 : goal.returns-then-a-eq0
-returns-then-a-eq0 c =
-    let g = c.args in
-    let p = append_none g.events g.position g.a.first g.a.second g.a.count g.journal.now c.if-a-eq0.true in
-    record { count = p.0; journal = p.1 }
+pub returns-in_default-clause-journal : goal.returns-in_default-clause-journal
+unfolding encode_events
+returns-in_default-clause-journal c = rw c.in_default.is (sym (put_nothing (event_length * c.args.events) c.args.journal.now))
 
-pub returns-then-one_event : goal.returns-then-one_event
-returns-then-one_event c =
-    let g = c.args in
-    let p = append_one g.events g.position g.a.first g.a.second g.a.count g.journal.now _ c.if-one_event.true c.put_event.ensures in
-    record { count = p.0; journal = p.1 }
+pub returns-in_default-last-clause-journal : goal.returns-in_default-last-clause-journal
+unfolding encode_events
+returns-in_default-last-clause-journal c =
+    let a = c.args in
+    let first = c.in-Some.first in
+    rw (c.in-Some.is, c.in_default-last.is, append-nil)
+    (put_front (event_length * a.events) event_length a.journal.now (encode_event a.position first) _ (event_length_lem a.position first) c.write_event.ensures)
 
-pub returns : goal.returns
-returns c =
-    let g = c.args in
-    let p =
-    append_two g.events g.position g.a.first g.a.second g.a.count g.journal.now _ _
-    c.if-a-eq0.false c.if-one_event.false c.requires c.put_event.ensures c.put_event-2.ensures in
-    record { count = p.0; journal = p.1 }
+pub returns-clause-journal : goal.returns-clause-journal
+unfolding encode_events
+returns-clause-journal c =
+    let a = c.args in
+    let at = event_length * a.events in
+    let first = c.in-Some.first in
+    let second = c.in-Some-last.second in
+    rw (c.in-Some.is, c.in-Some-last.is, append-nil)
+    (append_two a.events a.position first second a.journal.now _ _ c.requires
+    (put_front at event_length a.journal.now (encode_event a.position first) _ (event_length_lem a.position first) c.write_event.ensures)
+    (put_front (at + event_length) event_length _ (encode_event a.position second) _ (event_length_lem a.position second) c.write_event-2.ensures))

@@ -1,11 +1,8 @@
--- The loop keeps `Left`, for any blocks of that number: those from index i on are all that are left to check.
-use Rattle.std.proofs.Common.{◌≡◌, ◌-◌, List, length}
-use Rattle.table.specs.Blocks.{Block}
-use Rattle.engine.proofs.VerifyLaws.{Left, form_from}
+-- The loop keeps: the blocks before i passed.
+use Rattle.std.proofs.Common.{◌≡◌, Ok}
+use Rattle.refusal.specs.Refusal.{first_refused}
+use Rattle.engine.specs.Verify.{form_at}
 use Rattle.engine.proofs.verify.check_entries.Given as goal
 
 abbrev pub invariant-loop-i : goal.invariant-loop-i
-invariant-loop-i l = (blocks : List Block) → length blocks ≡ l.count → Left (form_from l.frame) blocks l.i
-
-abbrev pub decreases-loop-i : goal.decreases-loop-i
-decreases-loop-i l = l.count - l.i
+invariant-loop-i l = first_refused (form_at l.frame) l.i ≡ Ok tt

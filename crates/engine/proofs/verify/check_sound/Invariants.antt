@@ -1,11 +1,9 @@
--- The loop keeps `Left`: the blocks from index i on are all that are left to check.
-use Rattle.std.proofs.Common.{◌-◌}
+-- The loop keeps: the blocks before i passed.
+use Rattle.std.proofs.Common.{◌≡◌, Ok}
 use Rattle.table.specs.Blocks.{blocks_of}
-use Rattle.engine.proofs.VerifyLaws.{Left, sound_from}
+use Rattle.refusal.specs.Refusal.{first_refused}
+use Rattle.engine.specs.Verify.{sound_at}
 use Rattle.engine.proofs.verify.check_sound.Given as goal
 
 abbrev pub invariant-loop-i : goal.invariant-loop-i
-invariant-loop-i l = Left (sound_from l.state) (blocks_of l.image) l.i
-
-abbrev pub decreases-loop-i : goal.decreases-loop-i
-decreases-loop-i l = l.count - l.i
+invariant-loop-i l = first_refused (sound_at (blocks_of l.table) l.state) l.i ≡ Ok tt

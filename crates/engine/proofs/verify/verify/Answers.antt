@@ -1,28 +1,21 @@
--- `verify::verify` meets its contract: the groups of checks from the top down, each with those above it passed.
-use mathlib.Core.Path.{sym, ◌∙◌}
+-- `verify::verify` meets its contract: what passes fits.
+use Rattle.std.proofs.Common.{◌≡◌, ◌∙◌, sym, Ok, Err, OnOk}
+use Rattle.refusal.specs.Refusal.{Verdict}
 use Rattle.table.specs.Blocks.{blocks_of}
-use Rattle.table.proofs.AcceptedLaws.{accepted_blocks}
-use Rattle.engine.specs.Verify.{verify_of}
+use Rattle.engine.proofs.ScanAccepted.{state_fits, given_fits}
 use Rattle.engine.proofs.verify.verify.Goals as goal
 
-pub returns-in_default : goal.returns-in_default
-unfolding verify_of
-returns-in_default c =
-    let told = c.in_default.is in
-    rw (sym c.check_state-of_state.ensures ∙ told) told
+on_pass : {P : Type 0} (v w : Verdict) → v ≡ w → (w ≡ Ok tt → P) → OnOk v P
+on_pass (Ok x) w e h = h (sym e)
+on_pass (Err refusal) w e h = tt
 
-pub returns-in_default-of_frame : goal.returns-in_default-of_frame
-unfolding verify_of
-returns-in_default-of_frame c =
-    let n = accepted_blocks c.args.image.now c.args.count c.requires.answer in
-    let told = c.in_default-of_frame.is in
-    rw (sym c.check_state-of_state.ensures ∙ c.in-Passed.is, sym (c.check_frame-of_frame.ensures (blocks_of c.args.image.now) n) ∙ told) told
+pub returns-clause-state_fits : goal.returns-clause-state_fits
+returns-clause-state_fits c =
+    let a = c.args in
+    on_pass _ _ c.check_lent.ensures (λ e. state_fits (blocks_of a.table.now) a.state.now (sym c.check_state.ensures ∙ c.in_ok-check_state.was))
 
-pub returns : goal.returns
-unfolding verify_of
-returns c =
-    let n = accepted_blocks c.args.image.now c.args.count c.requires.answer in
-    rw (
-      sym c.check_state-of_state.ensures ∙ c.in-Passed.is,
-      sym (c.check_frame-of_frame.ensures (blocks_of c.args.image.now) n) ∙ c.in-Passed-of_frame.is,
-    ) (c.check_lent.ensures (blocks_of c.args.image.now) n)
+pub returns-clause-given_fits : goal.returns-clause-given_fits
+returns-clause-given_fits c =
+    let a = c.args in
+    on_pass _ _ c.check_lent.ensures
+    (λ e. given_fits (blocks_of a.table.now) a.told.now a.report.now a.journal.now (rw c.frame.ensures at (sym c.check_frame.ensures ∙ c.in_ok-check_frame.was)) e)

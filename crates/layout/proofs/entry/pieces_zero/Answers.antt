@@ -4,4 +4,4 @@ use Rattle.layout.proofs.entry.pieces_zero.Goals as goal
 
 pub returns : goal.returns
 returns c =
-    rw (c.u64_at.ensures, c.u64_at-2.ensures, c.u64_at-3.ensures, c.u64_at-4.ensures) (pieces_zero c.args.s.now)
+    rw (c.read_at.ensures, c.read_at-2.ensures, c.read_at-3.ensures, c.read_at-4.ensures) (pieces_zero c.args.s.now)

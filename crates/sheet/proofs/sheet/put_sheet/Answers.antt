@@ -1,8 +1,7 @@
 -- `sheet::put_sheet` meets its contract: the lines of the blocks, and the last line after them.
 use Rattle.table.specs.Blocks.{blocks_of}
-use Rattle.table.proofs.AcceptedLaws.{accepted_blocks}
 use Rattle.text.specs.Ascii.{ascii}
-use Rattle.figures.specs.Tally.{figures_in}
+use Rattle.figures.specs.Tally.{counts_of, figures_in}
 use Rattle.sheet.proofs.SheetLaws.{last_line}
 use Rattle.sheet.proofs.sheet.put_sheet.Goals as goal
 
@@ -10,5 +9,5 @@ pub returns : goal.returns
 unfolding ascii
 returns c =
     let a = c.args in
-    let listed = c.put_blocks-lines.ensures in
-    last_line (blocks_of a.image.now) (figures_in a.counts.now) (accepted_blocks a.image.now a.count c.requires.accepted.answer) listed.text listed.sums c.put_line.ensures.text
+    let listed = c.put_blocks-sums.ensures in
+    last_line (blocks_of a.table.now) (figures_in (counts_of a.tally.now)) listed.text listed.sums c.put_line.ensures.text

@@ -10,6 +10,6 @@ use Rattle.table.proofs.record.kind_ok.Goals as goal
 pub returns : goal.returns
 returns c =
     let s = c.args.image.now in
-    let kind : c.is_kind.result ≡ is_kind (kind_of s c.args.slot) = c.is_kind.ensures ∙ ap is_kind c.slot_byte-kind.ensures in
-    rw (kind, c.u16_at.ensures, c.slot_start.ensures, slot_pair_zero s c.args.slot zero_offset c.requires (omega arith))
+    let kind : c.is_kind.result ≡ is_kind (kind_of s c.args.slot) = c.is_kind.ensures ∙ ap is_kind (c.from-kind.ensures ∙ c.slot_byte.ensures) in
+    rw (kind, c.read_at.ensures, c.slot_start.ensures, slot_pair_zero s c.args.slot zero_offset c.requires (omega arith))
     (by_test (is_kind (kind_of s c.args.slot)) (λ h. simp h) (λ h. simp h))

@@ -4,5 +4,5 @@ use Rattle.table.proofs.record.no_wire.Goals as goal
 
 pub returns : goal.returns
 returns c =
-    rw (c.u16_at.ensures, c.slot_start.ensures)
+    rw (c.read_at.ensures, c.slot_start.ensures)
     (slot_pair_zero c.args.image.now c.args.slot c.args.wire c.requires.has_slot c.requires.wire_bound)

@@ -18,6 +18,6 @@ returns c =
     let source = wire_slot image a.slot a.wire in
     let code = wire_code image a.slot a.wire in
     let none : no_wire source code ≡ false = sym c.no_wire.ensures ∙ c.if-no_wire.false in
-    let o = on_chain_is (chain_of image) a.positions.now source c.on_chain.result c.requires.holds_positions
-    (c.on_chain.ensures ∙ ap (λ (k : ℕ). not (eqb (get_or a.positions.now k 0) 0)) c.slot_byte-source.ensures) in
+    let o = on_chain_is (chain_of image) a.chain.now.positions source c.on_chain.result c.requires.holds.places
+    (c.on_chain.ensures ∙ ap (λ (k : ℕ). not (eqb (get_or a.chain.now.positions k 0) 0)) c.slot_byte-source.ensures) in
     rw (o, c.slot_byte-code.ensures) (wire_some image source code none)

@@ -1,21 +1,18 @@
--- `spare::check_spares` meets its contract: none is left to look at where the chain has all slots, and `Sparing` goes from slot to slot.
-use mathlib.Core.Path.{sym, ◌∙◌}
-use Rattle.table.proofs.SpareLaws.{no_spares, sparing_start, sparing_failed, sparing_on, sparing_end}
+-- `spare::check_spares` meets its contract: none is left to look at where the chain has all slots.
+use Rattle.std.proofs.Common.{◌≡◌, ◌∙◌, sym, suc, false, add-one, arith}
+use Rattle.refusal.proofs.Rows.{refused_at}
+use Rattle.image.specs.Image.{slot_count}
+use Rattle.table.specs.Chain.{chain_of}
+use Rattle.table.specs.Spare.{spare_ok, spare_at, spares_check}
+use Rattle.table.proofs.SpareLaws.{no_spares}
 use Rattle.table.proofs.spare.check_spares.Goals as goal
 
-pub returns-then-none_spare : goal.returns-then-none_spare
-returns-then-none_spare c = no_spares c.args.image.now (c.requires.holds_positions.1 ∙ c.if-none_spare.true)
-
-pub loop-slot-init : goal.loop-slot-init
-loop-slot-init c = sparing_start _
+pub returns-then-chain-n : goal.returns-then-chain-n
+returns-then-chain-n c = no_spares c.args.image.now (c.requires.holds.counted ∙ c.if-chain-n.true)
 
 pub returns-then-not-spare_ok : goal.returns-then-not-spare_ok
+unfolding spares_check
 returns-then-not-spare_ok c =
-    sparing_failed c.args.image.now c.loop-slot.slot c.loop-slot.invariant c.loop-slot-test.true (sym c.spare_ok.ensures ∙ c.if-not-spare_ok.true)
-
-pub loop-slot-preserved : goal.loop-slot-preserved
-loop-slot-preserved c =
-    sparing_on c.args.image.now c.loop-slot.slot c.loop-slot.invariant c.loop-slot-test.true (sym c.spare_ok.ensures ∙ c.if-not-spare_ok.false)
-
-pub returns : goal.returns
-returns c = sparing_end c.args.image.now c.loop-slot.slot c.loop-slot.invariant c.loop-slot-test.false
+    let image = c.args.image.now in
+    let fails : spare_ok image (chain_of image) (suc c.loop-i.i) ≡ false = rw add-one at (sym c.spare_ok.ensures ∙ c.if-not-spare_ok.true) in
+    rw (c.at_slot.ensures, add-one) (sym (refused_at (spare_at image) c.loop-i.i (slot_count image) _ (omega arith) c.loop-i.invariant (rw fails)))

@@ -1,10 +1,8 @@
--- The loop of `spare::check_spares` keeps `Sparing`: the slots from this one on are all that are left.
-use Prim.Native.Nat.{◌+◌, ◌-◌}
-use Rattle.table.proofs.SpareLaws.{Sparing}
+-- The loop of `spare::check_spares` keeps: the slots before this one passed.
+use Rattle.std.proofs.Common.{◌≡◌, Ok}
+use Rattle.refusal.specs.Refusal.{first_refused}
+use Rattle.table.specs.Spare.{spare_at}
 use Rattle.table.proofs.spare.check_spares.Given as goal
 
-abbrev pub invariant-loop-slot : goal.invariant-loop-slot
-invariant-loop-slot l = Sparing l.image l.slot
-
-abbrev pub decreases-loop-slot : goal.decreases-loop-slot
-decreases-loop-slot l = l.n + 1 - l.slot
+abbrev pub invariant-loop-i : goal.invariant-loop-i
+invariant-loop-i l = first_refused (spare_at l.image) l.i ≡ Ok tt

@@ -7,4 +7,4 @@ use Rattle.table.proofs.spare.slot_zero.Goals as goal
 pub returns : goal.returns
 returns c =
     let a = c.args in
-    rw (c.u64_at.ensures, c.u64_at-2.ensures, c.slot_start-start.ensures) (sym (zero_sixteen a.image.now (slot_start a.slot)))
+    rw (c.read_at.ensures, c.read_at-2.ensures, c.slot_start-start.ensures) (sym (zero_sixteen a.image.now (slot_start a.slot)))

@@ -16,5 +16,5 @@ pub returns : goal.returns
 returns c =
     let tag = c.args.tag.now in
     let eight : length tag ≡ tag_length = c.if-tag-ne-TAG_LENGTH.false in
-    form_number tag eight (λ i. (c.type_inv.tag i).fits) c.number_form.result c.u64_at.result c.number_form.ensures
-    (c.u64_at.ensures ∙ ap number (take_all tag_length tag (omega (arith, eight))))
+    form_number tag eight (λ i. (c.type_inv.tag i).fits) c.number_form.result c.read_at.result c.number_form.ensures
+    (c.read_at.ensures ∙ ap number (take_all tag_length tag (omega (arith, eight))))
