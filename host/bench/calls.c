@@ -3,8 +3,8 @@
  *     calls LOAD BLOCKS CALLS
  *
  * makes one call of the load over so many blocks, which also brings the blocks to where the load has them, and then
- * so many more. What CALLS more calls take is so the difference of two runs. A call that is refused, or that leaves
- * a block elsewhere than the load says, ends the program with status 1.
+ * so many more. What CALLS more calls take is so the difference of two runs. A call that is refused, that leaves a
+ * block elsewhere than the load says, or that tidies the table to another, ends the program with status 1.
  *
  * The table is the one of `cargo run --release -p bench` without wires: kinds 1 to 12 in turn, tags LANE1 and on,
  * slots in the order of the chain. `mixed` alone has all 14 kinds in turn, from 8 on. */
@@ -25,6 +25,7 @@ static uint8_t report[LANE_REPORT_BYTES * LANE_MAX_BLOCKS];
 static uint8_t journal[2 * LANE_EVENT_BYTES * LANE_MAX_BLOCKS];
 static uint8_t events[LANE_EVENT_BYTES * EVENTS];
 static uint8_t last_tag[LANE_TAG_BYTES];
+static uint8_t anew[LANE_HEADER_BYTES + LANE_SLOT_BYTES * LANE_MAX_BLOCKS];
 static uint32_t blocks;
 
 static void fail(const char *why)
@@ -165,6 +166,10 @@ static void call(const char *load, uint32_t number)
         accept(lane_check(image, bytes));
     } else if (strcmp(load, "find") == 0) {
         accept(lane_find(image, bytes, last_tag, sizeof last_tag));
+    } else if (strcmp(load, "tidy") == 0) {
+        accept(lane_tidy(image, bytes, anew, bytes));
+        if (memcmp(anew, image, bytes) != 0)
+            fail("a table that was tidy became another");
     } else if (strcmp(load, "journal") == 0) {
         accept(lane_check_journal(image, bytes, events, sizeof events));
     } else if (strcmp(load, "idle") == 0) {

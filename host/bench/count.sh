@@ -23,9 +23,9 @@ collected() {
 
 sha256sum "$archive" | awk '{ print "archive: sha256 " $1 }'
 printf '%-10s%10s%10s%10s\n' load 1 8 64
-for load in check find idle working turning mixed journal; do
+for load in check find tidy idle working turning mixed journal; do
     case $load in
-    check | find) symbol=lane_$load ;;
+    check | find | tidy) symbol=lane_$load ;;
     journal) symbol=lane_check_journal ;;
     *) symbol=lane_scan ;;
     esac

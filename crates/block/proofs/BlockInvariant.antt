@@ -47,6 +47,7 @@ settled_flags (resets is_error f x) = refl
 settled_flags (resets is_aborted f x) = refl
 settled_flags (withdraws a x) = refl
 
+-- std has no such law by name; by its cond-true and cond-false the proof would be longer than by cases
 cond_same : {A : Type 0} (b : Bool) (x y z : A) → (b ≡ false → y ≡ z) → cond b x y ≡ cond b x z
 cond_same true x y z h = refl
 cond_same false x y z h = h refl

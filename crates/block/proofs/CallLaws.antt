@@ -14,7 +14,8 @@ use Rattle.block.specs.Call.{Outcome, last_pass, pass_then, Call, stops, goes, c
 use Rattle.block.proofs.Phases.{rank, Falling, halts, falls}
 use Rattle.block.specs.declared.record.Record.{Record}
 use Rattle.block.specs.declared.entry.Inputs.{Inputs}
-use Rattle.block.proofs.Tests.{choose, never}
+use Rattle.std.proofs.lemmas.Bool.{cond_both}
+use Rattle.block.proofs.Tests.{never}
 use Rattle.block.proofs.Shapes.{Shape, settled, settled_of}
 use Rattle.block.proofs.Passes.{room, passed, rank_least, rank_most, room_most}
 
@@ -48,7 +49,7 @@ module _ (k : ℕ) (i : Inputs) (e : Entry) where
       last true h = let g = (passed k i e s).lower h in let z : ⊥ = omega (arith, rank_least (pass k i e r).next) in absurd z
       last false h = h
   within (suc n) r s l =
-      choose (Ranked k i e r) (pass k i e r).again _ _
+      cond_both (pass k i e r).again _ _ (Ranked k i e r)
       (λ h. let g = (passed k i e s).lower h in goes_on r s h _ (within n (pass k i e r).next (passed k i e s).after (omega arith)))
       (λ h. ends r s h)
 

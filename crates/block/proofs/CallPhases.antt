@@ -37,7 +37,8 @@ use Rattle.block.specs.declared.call.Stopped.{Stopped}
 use Rattle.block.specs.declared.entry.Given.{Given}
 use Rattle.block.specs.PackedEntry.{entry_of}
 use Rattle.membership.proofs.Logic.{by_test}
-use Rattle.block.proofs.Tests.{choose, none, never, or_cases}
+use Rattle.std.proofs.lemmas.Bool.{cond_both}
+use Rattle.block.proofs.Tests.{none, never, or_cases}
 use Rattle.block.proofs.Shapes.{is_done, is_error, is_aborted, Settled, idle, runs, aborts, shows, resets, withdraws, settled_of}
 use Rattle.block.proofs.Passes.{cond_most, rank_cases, rank_least, rank_most}
 use Rattle.block.proofs.CallLaws.{call_falls, call_whole}
@@ -46,60 +47,60 @@ pieces_used : (several : Bool) (b : Bounds) (w : Work) (ps : List Piece) → (us
 unfolding use_pieces
 pieces_used several b w [] = omega arith
 pieces_used several b w (p ∷ ps) =
-    choose (λ (x : Work). x.used ≤ w.used + suc (length ps)) (ends_pieces several b (use_piece w p) p) _ _
+    cond_both (ends_pieces several b (use_piece w p) p) _ _ (λ (x : Work). x.used ≤ w.used + suc (length ps))
     (λ h. omega arith)
     (λ h. let i = pieces_used several b (use_piece w p) ps in omega arith)
 
 -- a pass uses at most four pieces
-abbrev Few : Pass → Type 0
+abbrev pub Few : Pass → Type 0
 Few p = p.used ≤ most_pieces
 
 module _ (k : ℕ) (i : Inputs) (e : Entry) (r : Record) where
   judge_used : (worked k e r).used ≤ most_pieces → Few (judge (is_continuous k) (time_out_of k e r) (worked k e r) r)
   unfolding judge
   judge_used h =
-      choose Few (eqb (worked k e r).reply ErrorReply) _ _ (λ t. h)
-      (λ t. choose Few (past_time_out (time_out_of k e r) (worked k e r).timer) _ _ (λ t. h)
-      (λ t. choose Few (eqb (worked k e r).reply Complete && not (is_continuous k)) _ _ (λ t. h) (λ t. h)))
+      cond_both (eqb (worked k e r).reply ErrorReply) _ _ Few (λ t. h)
+      (λ t. cond_both (past_time_out (time_out_of k e r) (worked k e r).timer) _ _ Few (λ t. h)
+      (λ t. cond_both (eqb (worked k e r).reply Complete && not (is_continuous k)) _ _ Few (λ t. h) (λ t. h)))
 
-  pass_used : e.count ≤ most_pieces → Few (pass k i e r)
+  pub pass_used : e.count ≤ most_pieces → Few (pass k i e r)
   unfolding rule dormant executing ended aborting resetting
   pass_used h =
-      choose Few (eqb r.step Dormant) _ _ (λ t. choose Few i.start _ _ (λ t. omega arith) (λ t. omega arith))
-      (λ t. choose Few (eqb r.step Executing) _ _
-      (λ t. choose Few (called_off k i) _ _ (λ t. omega arith) (λ t. judge_used work))
-      (λ t. choose Few (is_end r.step) _ _
-      (λ t. choose Few (reset_due i r) _ _ (λ t. omega arith) (λ t. omega arith))
-      (λ t. choose Few (eqb r.step Aborting) _ _
-      (λ t. choose Few (eqb e.abort_reply ErrorReply) _ _ (λ t. omega arith)
-      (λ t. choose Few (eqb e.abort_reply Complete) _ _ (λ t. choose Few (is_edge k) _ _ (λ t. omega arith) (λ t. omega arith)) (λ t. omega arith)))
-      (λ t. choose Few (eqb r.step Resetting) _ _
-      (λ t. choose Few (eqb e.reset_reply Complete) _ _ (λ t. omega arith) (λ t. omega arith))
+      cond_both (eqb r.step Dormant) _ _ Few (λ t. cond_both i.start _ _ Few (λ t. omega arith) (λ t. omega arith))
+      (λ t. cond_both (eqb r.step Executing) _ _ Few
+      (λ t. cond_both (called_off k i) _ _ Few (λ t. omega arith) (λ t. judge_used work))
+      (λ t. cond_both (is_end r.step) _ _ Few
+      (λ t. cond_both (reset_due i r) _ _ Few (λ t. omega arith) (λ t. omega arith))
+      (λ t. cond_both (eqb r.step Aborting) _ _ Few
+      (λ t. cond_both (eqb e.abort_reply ErrorReply) _ _ Few (λ t. omega arith)
+      (λ t. cond_both (eqb e.abort_reply Complete) _ _ Few (λ t. cond_both (is_edge k) _ _ Few (λ t. omega arith) (λ t. omega arith)) (λ t. omega arith)))
+      (λ t. cond_both (eqb r.step Resetting) _ _ Few
+      (λ t. cond_both (eqb e.reset_reply Complete) _ _ Few (λ t. omega arith) (λ t. omega arith))
       (λ t. omega arith)))))
     where
       work : (worked k e r).used ≤ most_pieces
       work = omega (arith, pieces_used (has_time_limit k) (bounds_of k e r) (at_call e r) (take e.count e.pieces), length-take e.count e.pieces)
 
 -- the event of a pass stands after those of the account
-events-after : (f s v : Option Event) → length (events_of f s) + length (emitted v) ≤ 2 → events_of (first_after f v) (second_after f s v) ≡ events_of f s ++ emitted v
+pub events_after : (f s v : Option Event) → length (events_of f s) + length (emitted v) ≤ 2 → events_of (first_after f v) (second_after f s v) ≡ events_of f s ++ emitted v
 unfolding first_after second_after
-events-after None s None h = refl
-events-after (Some u) s None h = sym (append-nil (u ∷ emitted s))
-events-after None s (Some w) h = refl
-events-after (Some u) None (Some w) h = refl
-events-after (Some u) (Some x) (Some w) h = let z : ⊥ = omega arith in absurd z
+events_after None s None h = refl
+events_after (Some u) s None h = sym (append-nil (u ∷ emitted s))
+events_after None s (Some w) h = refl
+events_after (Some u) None (Some w) h = refl
+events_after (Some u) (Some x) (Some w) h = let z : ⊥ = omega arith in absurd z
 
 module _ (a : CallResult) (p : Pass) where
   -- the event of a pass has room
-  abbrev Room : Type 0
+  abbrev pub Room : Type 0
   Room = length (events_of a.first a.second) + length (emitted p.event) ≤ 2
 
   -- a pass is added as the last
-  add_last : Room → outcome_of (with_pass a p) ≡ joined (outcome_of a) (last_pass p)
-  add_last h = λ j. record { next = p.next; events = events-after a.first a.second p.event h j; used = a.used + p.used; passes = a.passes + 1 }
+  pub add_last : Room → outcome_of (with_pass a p) ≡ joined (outcome_of a) (last_pass p)
+  add_last h = λ j. record { next = p.next; events = events_after a.first a.second p.event h j; used = a.used + p.used; passes = a.passes + 1 }
 
   -- and with the rest of the call after it
-  add_first : (o : Outcome) → Room → joined (outcome_of (with_pass a p)) o ≡ joined (outcome_of a) (pass_then p o)
+  pub add_first : (o : Outcome) → Room → joined (outcome_of (with_pass a p)) o ≡ joined (outcome_of a) (pass_then p o)
   add_first o h =
       ap (λ (x : Outcome). joined x o) (add_last h)
       ∙ λ j. record {
@@ -185,7 +186,7 @@ module _ (g : Given) (r : Record) where
       (λ h. rule_at g.kind g.inputs (entry_of g.entry) r Aborted (eqb-true _ _ h))
 
 module _ (k : ℕ) (i : Inputs) (e : Entry) where
-  goes_on : {r : Record} {o : Outcome} → Falling k i e r o → (pass k i e r).again ≡ true
+  pub goes_on : {r : Record} {o : Outcome} → Falling k i e r o → (pass k i e r).again ≡ true
       → (q : Outcome) × Falling k i e (pass k i e r).next q × (o ≡ pass_then (pass k i e r) q) × (rank (pass k i e r).next < rank r)
   goes_on (halts r h) g = none (sym h ∙ g)
   goes_on (falls r q h l c) g = (q, c, refl, l)
@@ -194,7 +195,7 @@ module _ (k : ℕ) (i : Inputs) (e : Entry) where
   positive (halts r h) = omega arith
   positive (falls r o h l c) = omega arith
 
-  stops_at : {r : Record} {o : Outcome} → Falling k i e r o → (pass k i e r).again ≡ false → o ≡ last_pass (pass k i e r)
+  pub stops_at : {r : Record} {o : Outcome} → Falling k i e r o → (pass k i e r).again ≡ false → o ≡ last_pass (pass k i e r)
   stops_at (halts r h) g = refl
   stops_at (falls r q h l c) g = none (sym g ∙ h)
 
@@ -229,7 +230,7 @@ module _ {k : ℕ} {i : Inputs} {e : Entry} {all : Outcome} (n : ℕ) {a : CallR
       let both : length l.rest.events ≡ length (emitted q.event) + length o.events = ap length events ∙ length-append (emitted q.event) o.events in
       let has : length (events_of a.first a.second) + length (emitted q.event) ≤ 2 = omega (arith, l.events) in
       let grown : length (events_of (with_pass a q).first (with_pass a q).second) ≡ length (events_of a.first a.second) + length (emitted q.event) =
-      ap length (events-after a.first a.second q.event has) ∙ length-append (events_of a.first a.second) (emitted q.event) in
+      ap length (events_after a.first a.second q.event has) ∙ length-append (events_of a.first a.second) (emitted q.event) in
       record {
         rest = o;
         left = next.1;

@@ -19,7 +19,8 @@ use Rattle.block.proofs.Phases.{rank}
 use Rattle.block.specs.declared.record.Record.{Record}
 use Rattle.block.specs.declared.event.Event.{Event}
 use Rattle.block.specs.declared.entry.Inputs.{Inputs}
-use Rattle.block.proofs.Tests.{never, or_right}
+use Rattle.std.proofs.lemmas.Bool.{or_right}
+use Rattle.block.proofs.Tests.{never}
 use Rattle.block.proofs.Shapes.{is_done, is_error, is_aborted, Settled, idle, runs, aborts, shows, resets, withdraws, Shape, settled, settled_of}
 use Rattle.block.proofs.Passes.{room, open_in, passed, room_most}
 use Rattle.block.proofs.SoundLaws.{call_settled}

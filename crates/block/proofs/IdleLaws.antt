@@ -1,7 +1,7 @@
 -- The idle blocks are the Dormant ones whose pass stops; a call of one is that pass, which keeps the record, writes no event and uses no piece. For the
 -- engine, which serves such a block without a call.
 use Prim.Native.Nat.{ℕ}
-use mathlib.Core.Bool.{Bool, true, false, not, cond}
+use mathlib.Core.Bool.{Bool, true, false, not}
 use mathlib.Core.Path.{◌≡◌, ◌∙◌, refl, ap}
 use lib.Dec.{eqb}
 use borrow.Author.Tests.{eqb-true, not-true}
@@ -16,7 +16,7 @@ use Rattle.block.specs.declared.record.Record.{Record}
 use Rattle.block.specs.declared.entry.Inputs.{Inputs}
 use Rattle.block.specs.Entry.{Entry}
 use Rattle.block.specs.declared.pass.Pass.{Pass}
-use Rattle.block.proofs.Tests.{never}
+use Rattle.std.proofs.lemmas.Bool.{cond-false}
 
 pub idle_stops : IdleIsStopped
 unfolding rule dormant
@@ -31,12 +31,8 @@ idle_pass k i e r h =
     let low : i.start ≡ false = not-true i.start (and_right (eqb r.step Dormant) (not i.start) h) in
     rw (idle_dormant i.start r.step h, low)
 
-off : {A : Type 0} (b : Bool) (x y : A) → b ≡ false → cond b x y ≡ y
-off true x y h = never h
-off false x y h = refl
-
 pub idle_call : IdleCallIsUnchanged
 unfolding call_of call_within
 idle_call k i e r h =
     let p = idle_pass k i e r h in
-    off (pass k i e r).again _ _ (ap (λ (q : Pass). q.again) p) ∙ ap last_pass p
+    cond-false (pass k i e r).again _ _ (ap (λ (q : Pass). q.again) p) ∙ ap last_pass p

@@ -9,6 +9,7 @@ pub mod CountLaws
 pub mod Passes
 pub mod CallLaws
 pub mod CallPhases
+pub mod PhaseLaws
 pub mod SoundLaws
 pub mod EventLaws
 pub mod TimeLaws

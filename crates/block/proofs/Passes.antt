@@ -32,7 +32,8 @@ use Rattle.block.specs.declared.entry.Inputs.{Inputs}
 use Rattle.block.specs.declared.executing.Work.{Work}
 use Rattle.block.specs.declared.pass.Pass.{Pass}
 use Rattle.membership.proofs.Logic.{by_test, and_left, and_right}
-use Rattle.block.proofs.Tests.{choose, never, or_right, each}
+use Rattle.std.proofs.lemmas.Bool.{cond_both, or_right}
+use Rattle.block.proofs.Tests.{never, each}
 use Rattle.block.proofs.Tests.{none as no_case}
 use Rattle.block.proofs.Shapes.{End, is_done, is_error, is_aborted, end_step, end_flags, busy, rec, times_fit, error_code, EndFits}
 use Rattle.block.proofs.Shapes.{Settled, idle, runs, aborts, shows, resets, withdraws, Shape, settled, unshown}
@@ -149,7 +150,7 @@ module _ (k : ℕ) (i : Inputs) (e : Entry) where
   from_idle : Passed k e fresh_record (dormant k i e fresh_record)
   unfolding dormant rank room open_in has_start admits
   from_idle =
-      choose (Passed k e fresh_record) i.start _ _
+      cond_both i.start _ _ (Passed k e fresh_record)
       (λ h. going fresh_record _ refl (settled (runs (taken_times k e))) (λ _. turn_start _ refl refl end) (one _ (λ _. refl) nothing)
       (λ l. let z : ⊥ = omega arith in absurd z) (omega arith) (omega arith) (starts refl refl (started_timer k e fresh_record) (started_timeout k e fresh_record) refl))
       (λ h. stopped fresh_record _ refl idle (λ x. omega arith) (λ _. end) nothing refl (omega arith))
@@ -175,11 +176,11 @@ module _ (k : ℕ) (i : Inputs) (e : Entry) where
     from_judge : (v : Work) → Worked e w v → Passed k e run (judge (is_continuous k) (time_out_of k e run) v run)
     unfolding judge rank room open_in has_start
     from_judge v f =
-        choose (Passed k e run) (eqb v.reply ErrorReply) _ _
+        cond_both (eqb v.reply ErrorReply) _ _ (Passed k e run)
         (λ h. leaving is_error v.code v _ refl f.held (λ g. code_two k v.code (f.code g h)))
-        (λ _. choose (Passed k e run) (past_time_out (time_out_of k e run) v.timer) _ _
+        (λ _. cond_both (past_time_out (time_out_of k e run) v.timer) _ _ (Passed k e run)
         (λ h. leaving is_error TimedOut v _ refl f.held (λ g. has_time_out_lem k e run v.timer h))
-        (λ late. choose (Passed k e run) (eqb v.reply Complete && not (is_continuous k)) _ _
+        (λ late. cond_both (eqb v.reply Complete && not (is_continuous k)) _ _ (Passed k e run)
         (λ h. leaving is_done 0 v _ refl f.held (refl, not-true (is_continuous k) (and_right (eqb v.reply Complete) (not (is_continuous k)) h), λ _. refl))
         (λ _.
         let s : Settled k (entry_fits e ≡ true) (timed v run) = runs (read_times k l t w v.timer f.held x) in
@@ -198,7 +199,7 @@ module _ (k : ℕ) (i : Inputs) (e : Entry) where
     from_runs : Passed k e run (executing k i e run)
     unfolding executing rank room open_in has_start
     from_runs =
-        choose (Passed k e run) (called_off k i) _ _
+        cond_both (called_off k i) _ _ (Passed k e run)
         (λ h. going run _ refl (settled (aborts (called_aborts k i h) x)) (λ _. end) nothing (λ _. refl) (omega arith) (omega arith) (leaves (omega arith)))
         (λ _. from_judge (worked k e run) (worked_laws k e run))
 
@@ -208,12 +209,12 @@ module _ (k : ℕ) (i : Inputs) (e : Entry) where
     from_aborts : (is_edge k ≡ true → has_abort k ≡ true) → Passed k e abt (aborting k e abt)
     unfolding aborting rank room open_in has_start admits
     from_aborts a =
-        choose (Passed k e abt) (eqb e.abort_reply ErrorReply) _ _
+        cond_both (eqb e.abort_reply ErrorReply) _ _ (Passed k e abt)
         (λ h.
         let shape = unshown is_error (λ f. code_two k e.abort_code (coded e.abort_reply e.abort_code (form e f).abort h)) x in
         going abt _ refl shape (λ _. end) nothing (λ _. refl) (omega arith) (omega arith) (leaves (omega arith)))
-        (λ _. choose (Passed k e abt) (eqb e.abort_reply Complete) _ _
-        (λ _. choose (Passed k e abt) (is_edge k) _ _
+        (λ _. cond_both (eqb e.abort_reply Complete) _ _ (Passed k e abt)
+        (λ _. cond_both (is_edge k) _ _ (Passed k e abt)
         (λ h. going abt _ refl (unshown is_aborted (refl, a h) x) (λ _. end) nothing (λ _. refl) (omega arith) (omega arith) (leaves (omega arith)))
         (λ h. going abt _ refl (settled (withdraws h x)) (λ _. turn_finish _ refl (rw h) refl end) (one _ no_case nothing) (λ _. refl) (omega arith) (omega arith) (leaves (omega arith))))
         (λ _. stopped abt _ refl (aborts a x) (λ q. omega arith) (λ _. end) nothing refl (omega arith)))
@@ -221,7 +222,7 @@ module _ (k : ℕ) (i : Inputs) (e : Entry) where
     from_withdraws : is_edge k ≡ false → Passed k e (rec Resetting busy false j 0 l t w) (resetting e (rec Resetting busy false j 0 l t w))
     unfolding resetting rank room open_in has_start
     from_withdraws h =
-        choose (Passed k e (rec Resetting busy false j 0 l t w)) (eqb e.reset_reply Complete) _ _
+        cond_both (eqb e.reset_reply Complete) _ _ (Passed k e (rec Resetting busy false j 0 l t w))
         (λ _. stopped _ _ refl idle (λ q. omega arith) (λ _. end) nothing refl (omega arith))
         (λ _. stopped _ _ refl (withdraws h x) (λ q. omega arith) (λ _. end) nothing refl (omega arith))
 
@@ -229,11 +230,11 @@ module _ (k : ℕ) (i : Inputs) (e : Entry) where
       from_resets : (z : End) (q : Bool) → EndFits k (entry_fits e ≡ true) z q c → Passed k e (rec Resetting (end_flags z) q j c l t w) (resetting e (rec Resetting (end_flags z) q j c l t w))
       unfolding resetting rank room open_in has_start
       from_resets z true f =
-          choose (Passed k e (rec Resetting (end_flags z) true j c l t w)) (eqb e.reset_reply Complete) _ _
+          cond_both (eqb e.reset_reply Complete) _ _ (Passed k e (rec Resetting (end_flags z) true j c l t w))
           (λ _. going _ _ refl (settled idle) (λ _. end) nothing (λ _. refl) (omega arith) (omega arith) (returns refl refl (omega arith)))
           (λ _. stopped _ _ refl (resets z f x) (λ q. omega arith) (λ _. end) nothing refl (omega arith))
       from_resets z false f =
-          choose (Passed k e (rec Resetting (end_flags z) false j c l t w)) (eqb e.reset_reply Complete) _ _
+          cond_both (eqb e.reset_reply Complete) _ _ (Passed k e (rec Resetting (end_flags z) false j c l t w))
           (λ _. stopped _ _ refl idle (λ q. omega arith) (λ _. end) nothing refl (omega arith))
           (λ _. stopped _ _ refl (resets z f x) (λ q. omega arith) (λ _. end) nothing refl (omega arith))
 
@@ -247,15 +248,15 @@ module _ (k : ℕ) (i : Inputs) (e : Entry) where
       from_shows : (z : End) (q : Bool) → EndFits k (entry_fits e ≡ true) z q c → Passed k e (rec (end_step z) (end_flags z) q j c l t w) (ended k i (rec (end_step z) (end_flags z) q j c l t w))
       unfolding ended rank room open_in has_start
       from_shows is_done q f =
-          choose (Passed k e (rec Done (end_flags is_done) q j c l t w)) (not i.start || q) _ _
+          cond_both (not i.start || q) _ _ (Passed k e (rec Done (end_flags is_done) q j c l t w))
           (λ _. to_reset is_done q f _ refl refl refl)
           (λ _. stopped _ _ refl (shows is_done (f.0, f.1, λ g. rw g) x) (λ q. omega arith) (λ _. end) nothing refl (omega arith))
       from_shows is_error q f =
-          choose (Passed k e (rec Error (end_flags is_error) q j c l t w)) (not i.start || q) _ _
+          cond_both (not i.start || q) _ _ (Passed k e (rec Error (end_flags is_error) q j c l t w))
           (λ _. to_reset is_error q f _ refl refl refl)
           (λ _. stopped _ _ refl (shows is_error f x) (λ q. omega arith) (λ _. end) nothing refl (omega arith))
       from_shows is_aborted q f =
-          choose (Passed k e (rec Aborted (end_flags is_aborted) q j c l t w)) (not i.start || q) _ _
+          cond_both (not i.start || q) _ _ (Passed k e (rec Aborted (end_flags is_aborted) q j c l t w))
           (λ _. to_reset is_aborted q f _ refl refl refl)
           (λ _. stopped _ _ refl (shows is_aborted f x) (λ q. omega arith) (λ _. end) nothing refl (omega arith))
 
@@ -292,11 +293,11 @@ pub rank_cases : (P : ℕ → Type 0) (r : Record) → (r.step ≡ Dormant → P
     → (r.step ≡ Resetting → P 1) → (is_end r.step ≡ true → P 1) → P 6 → P (rank r)
 unfolding rank
 rank_cases P r f4 f3 f2 f5 f1 g1 f6 =
-    choose P (eqb r.step Dormant) _ _ (λ h. f4 (eqb-true _ _ h))
-    (λ _. choose P (eqb r.step Executing) _ _ (λ h. f3 (eqb-true _ _ h))
-    (λ _. choose P (eqb r.step Aborting) _ _ (λ h. f2 (eqb-true _ _ h))
-    (λ _. choose P (eqb r.step Resetting) _ _ (λ h. choose P r.request _ _ (λ _. f5 (eqb-true _ _ h)) (λ _. f1 (eqb-true _ _ h)))
-    (λ _. choose P (is_end r.step && r.flags.busy) _ _
+    cond_both (eqb r.step Dormant) _ _ P (λ h. f4 (eqb-true _ _ h))
+    (λ _. cond_both (eqb r.step Executing) _ _ P (λ h. f3 (eqb-true _ _ h))
+    (λ _. cond_both (eqb r.step Aborting) _ _ P (λ h. f2 (eqb-true _ _ h))
+    (λ _. cond_both (eqb r.step Resetting) _ _ P (λ h. cond_both r.request _ _ P (λ _. f5 (eqb-true _ _ h)) (λ _. f1 (eqb-true _ _ h)))
+    (λ _. cond_both (is_end r.step && r.flags.busy) _ _ P
     (λ h. g1 (and_left (is_end r.step) r.flags.busy h)) (λ _. f6)))))
 
 -- a pass is to come, and at most six, with at most two events

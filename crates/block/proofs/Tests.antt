@@ -1,17 +1,14 @@
 -- Cases of a boolean test, and conjunctions of several tests taken apart. For the laws of the block machine.
 use Prim.Native.Nat.{ℕ, suc, ◌≤◌}
 use native.Mathlib.Omega.{arith}
-use mathlib.Core.Bool.{Bool, true, false, cond, ◌&&◌, ◌||◌, beq, true≢false, false≢true}
+use mathlib.Core.Bool.{Bool, true, false, ◌&&◌, ◌||◌, beq, true≢false, false≢true}
 use mathlib.Core.List.{List, [], ◌∷◌}
 use mathlib.Core.Path.{◌≡◌, refl, sym, subst}
 use lib.Dec.{eqb, leb}
 use borrow.Author.Tests.{eqb-true, eqb-false, leb-true}
 use Rattle.membership.proofs.Logic.{by_test, and_left, and_right}
 
-pub choose : {A : Type 0} (P : A → Type 0) (b : Bool) (x y : A) → (b ≡ true → P x) → (b ≡ false → P y) → P (cond b x y)
-choose P true x y f g = f refl
-choose P false x y f g = g refl
-
+-- std's false≢true and true≢false give ⊥: each use would be longer by an absurd
 pub none : {A : Type 0} → false ≡ true → A
 none h = absurd (false≢true h)
 
@@ -27,10 +24,6 @@ beq_true false false h = refl
 pub or_cases : {A : Type 0} (a b : Bool) → (a || b) ≡ true → (a ≡ true → A) → (b ≡ true → A) → A
 or_cases true b h f g = f refl
 or_cases false b h f g = g h
-
-pub or_right : (a b : Bool) → b ≡ true → (a || b) ≡ true
-or_right true b h = refl
-or_right false b h = h
 
 -- a conjunction as it is written, to the left, and its parts as facts
 abbrev pub ands : Bool → List Bool → Bool

@@ -9,7 +9,8 @@ use mathlib.Core.Path.{◌≡◌, sym, subst}
 use lib.Dec.{eqb}
 use borrow.Author.Tests.{eqb-true, eqb-false, eq-eqb, ne_eqb, le-leb, not-true}
 use Rattle.membership.proofs.MembershipLaws.{within_bounds}
-use Rattle.membership.proofs.Logic.{by_test, and_left, and_right, and_join}
+use Rattle.membership.proofs.Logic.{by_test, and_left, and_right}
+use Rattle.std.proofs.lemmas.Bool.{and_from}
 use Rattle.kind.specs.Kind.{is_edge, has_abort, has_time_out, is_continuous}
 use Rattle.block.specs.Record.{TimedOut}
 use Rattle.block.specs.Event.{Start, DoneEvent, Failed, AbortedEvent, Withdrawn, is_start, is_finish}
@@ -35,13 +36,13 @@ finish_turn k job v h =
 -- and back, with the events after it
 pub turn_start : {k : ℕ} {q : Option ℕ} {es : List Event} (v : Event) → is_start v ≡ true → admits k v ≡ true → Turns k (some v.job) es q → Turns k none (v ∷ es) q
 unfolding takes_turn
-turn_start {k} {q} {es} v s a t = turn {q = q} {es = es} v (and_join (is_start v) (admits k v) s a) (rw s t)
+turn_start {k} {q} {es} v s a t = turn {q = q} {es = es} v (and_from (is_start v) (admits k v) s a) (rw s t)
 
 pub turn_finish : {k job : ℕ} {q : Option ℕ} {es : List Event} (v : Event) → is_finish v ≡ true → admits k v ≡ true → v.job ≡ job → Turns k none es q
     → Turns k (some job) (v ∷ es) q
 unfolding takes_turn
 turn_finish {k} {job} {q} {es} v f a e t =
-    turn {q = q} {es = es} v (and_join (is_finish v && admits k v) (eqb v.job job) (and_join (is_finish v) (admits k v) f a) (eq-eqb v.job job e)) (rw (finish_not_start v f) t)
+    turn {q = q} {es = es} v (and_from (is_finish v && admits k v) (eqb v.job job) (and_from (is_finish v) (admits k v) f a) (eq-eqb v.job job e)) (rw (finish_not_start v f) t)
 
 -- An event that takes its turn in a block of kind k, by cases, with the job open before it and after it
 abbrev event : ℕ → ℕ → ℕ → Event

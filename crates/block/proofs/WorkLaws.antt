@@ -21,7 +21,8 @@ use Rattle.block.specs.declared.entry.Piece.{Piece}
 use Rattle.block.specs.declared.executing.Work.{Work}
 use Rattle.block.specs.declared.executing.Bounds.{Bounds}
 use Rattle.membership.proofs.Logic.{and_left, and_right}
-use Rattle.block.proofs.Tests.{choose, none, or_cases, each}
+use Rattle.std.proofs.lemmas.Bool.{cond_both}
+use Rattle.block.proofs.Tests.{none, or_cases, each}
 
 -- work w that became work v by using the first pieces of a list
 record Uses (w v : Work) (ps : List Piece) : Type 0 where
@@ -34,7 +35,7 @@ unfolding use_pieces tick_all clocks_of
 uses several b w zero ps = record { count = 0; used = omega arith; timer = refl }
 uses several b w (suc n) [] = record { count = 0; used = omega arith; timer = refl }
 uses several b w (suc n) (p ∷ ps) =
-    choose (λ (v : Work). Uses w v (p ∷ ps)) (ends_pieces several b (use_piece w p) p) _ _
+    cond_both (ends_pieces several b (use_piece w p) p) _ _ (λ (v : Work). Uses w v (p ∷ ps))
     (λ h. record { count = 1; used = refl; timer = refl })
     (λ h. let u = uses several b (use_piece w p) n ps in record { count = suc u.count; used = omega (arith, u.used); timer = u.timer })
 
@@ -72,7 +73,7 @@ fair_pieces form several b w (suc n) c i [] f g = g
 fair_pieces form several b w (suc n) c i (p ∷ ps) f g =
     let u : Fair form (use_piece w p) =
     record { code = λ h. coded_piece c i p (and_left (piece_fits c i p) (pieces_fit c (suc i) ps) (f h)); held = held_tick w.timer p.clock } in
-    choose (Fair form) (ends_pieces several b (use_piece w p) p) _ _ (λ h. u)
+    cond_both (ends_pieces several b (use_piece w p) p) _ _ (Fair form) (λ h. u)
     (λ h. fair_pieces form several b (use_piece w p) n c (suc i) ps (λ x. and_right (piece_fits c i p) (pieces_fit c (suc i) ps) (f x)) u)
 
 -- what an entry in form says of its codes

@@ -39,6 +39,7 @@ impl CallResult {
     }
 
     /// The call of a fresh record whose start is false: one pass, which stops.
+    // Written out, as `begin` is: a copy of one with another field is no plainer.
     pub fn idle() -> CallResult
         ensures { outcome_of result ≡ unchanged fresh_record }
     {

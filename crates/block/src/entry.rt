@@ -24,6 +24,7 @@ pub struct Piece {
 }
 
 /// A frame entry whose pieces are `P`. `inputs` are the frame's own bits; a wired input is resolved before the call.
+// Four pieces and a count that is asked, not held: an entry is read off any bytes, and there is no heap.
 #[derive(Clone, Copy)]
 pub struct EntryOf<P> {
     pub inputs: Inputs,
@@ -42,6 +43,7 @@ pub struct EntryOf<P> {
 pub type Entry = EntryOf<[Piece; PIECES]>;
 
 /// The same with each piece as the number in its eight bytes, which is taken apart where the piece is used.
+// Numbers, not pieces: 3,100 of 35,500 instructions less at 64 working blocks (docs/PERFORMANCE.md).
 pub type PackedEntry = EntryOf<[u64; PIECES]>;
 
 /// What a call of a block is given: its kind, its inputs and its entry. The rules are its methods.
@@ -69,6 +71,7 @@ impl Entry {
 }
 
 /// The piece in a number.
+// A function and no `From`: of the eight bytes it drops the one after the reply, which check 31 asks to be zero.
 pub fn piece_of(word: u64) -> Piece
     ensures { result ≡ piece_of word }
 {

@@ -4,7 +4,8 @@ ghost use Rattle.block.specs.Event.{event_of};
 
 use crate::record::Record;
 
-/// An event of a block. Its kind is a number and no enum: the promise of a list of scans and check 71 read it off any byte.
+/// An event of a block.
+// Kind and code are numbers, 0 for no code: the promise of a list of scans and check 71 read both off any byte.
 #[derive(Clone, Copy, Debug, PartialEq, Eq)]
 pub struct Event {
     pub kind: u8,

@@ -16,6 +16,7 @@ pub struct Pass {
 
 impl Pass {
     /// The call goes on; no event.
+    // Two makers and no parameter: the rules speak of a pass that goes on and of one that stops.
     pub fn go_on(used: u8, next: Record) -> Pass
         ensures { result ≡ go_on used next }
     {

@@ -52,7 +52,7 @@ impl Flags {
 }
 
 /// A state record. `request` is the reset request; `limit` and `timeout` are the time limit and the time-out taken at the start.
-// 0 for none and no Option: the rules store 0, and the one test of it is in crate clock.
+// 0 for none and no Option, of limit, time-out and code: a record is read off any bytes, in which the rules store 0.
 #[derive(Clone, Copy)]
 pub struct Record {
     pub step: u8,
@@ -65,7 +65,7 @@ pub struct Record {
     pub timer: Timer,
 }
 
-// The steps are numbers: the form of the rules, and a record is read off any byte.
+// The steps are numbers and a function makes the fresh record: forms fixed for the project; a record is read off any byte.
 impl Record {
     pub const DORMANT: u8 = 0;
 

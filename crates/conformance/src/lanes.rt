@@ -28,6 +28,7 @@ const SECOND_TAG: &str = "LANEO   ";
 const TWO_SLOTS: usize = HEADER_LENGTH + 2 * SLOT_LENGTH;
 
 // Two blocks of kind 1: LANE0 in slot 1, LANEO in slot 2.
+// Beside that of `single`: two blocks, each with a tag.
 fn image() -> [u8; TWO_SLOTS] {
     *b"\x01\x02\x01\0\x01\x02\0\0\0\0\0\0LANE0   \x01\0\0\0\0\0\0\0LANEO   "
 }
@@ -65,6 +66,7 @@ fn tag_at(position: usize) -> &'static str {
 }
 
 // The first events of the journal, each with the tag of its block.
+// Beside `Events` of `line`: before each event stands the tag of its block.
 fn print_journal(rt: &impl Print, journal: &[u8], count: usize) -> io::Result<()> {
     print!(rt; "{:<10} ", "journal")?;
     for (i, bytes) in journal.chunks_exact(EVENT_BYTES).take(count).enumerate() {
@@ -84,6 +86,7 @@ fn frame_of(first: Entry, second: Entry) -> [u8; 2 * ENTRY_BYTES] {
     frame
 }
 
+// Beside that of `single`: two entries, and the lines of two lanes and of their journal.
 fn scan(
     rt: &impl Print,
     name: &str,
@@ -105,6 +108,7 @@ fn scan(
     }
 }
 
+// Beside that of `single`: two blocks, lengths in the types, and lines of its own.
 fn fresh_state(rt: &impl Print) -> io::Result<[u8; 2 * RECORD_BYTES]> {
     let mut state = [255; 2 * RECORD_BYTES];
     match engine::fresh::fresh(&image(), &mut state) {

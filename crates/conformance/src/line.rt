@@ -40,6 +40,7 @@ pub fn print_report(rt: &impl Print, name: &str, entry: &[u8; REPORT_BYTES]) -> 
 }
 
 /// The first events of a journal, "-" for none.
+// A journal and a count: the room for events is longer than what a scan wrote.
 #[derive(Clone, Copy)]
 struct Events<'a> {
     journal: &'a [u8],

@@ -9,6 +9,7 @@ use layout::report::REPORT_BYTES;
 use std::io;
 
 /// Bytes of an image of one slot.
+// As in the other program: each stands on its own.
 pub const ONE_SLOT: usize = HEADER_LENGTH + SLOT_LENGTH;
 
 // The kinds of the cases, named as in docs/RULES.md, "Table image"; bytes, since `Kind::from` makes no constant.

@@ -20,6 +20,7 @@ fn flag_of(flag: Flag, flags: Flags) -> bool
 }
 
 // One input: the frame's bit, or a flag as it stands in the state.
+// That the wire reaches into the state is asked: of the length of a state check 20 says it, and no type.
 pub fn input_of(wire: Option<Wire>, state: &[u8], bit: bool) -> bool
     requires { Reaches wire state.now }
     ensures { result ≡ input_of wire (flags_in state.now) bit }

@@ -56,6 +56,7 @@ pub fn scan(
         ≡ (scan_of image.now state.old (record { frame = frame.now }) report.old journal.old).journal }
 {
     let mut chain = Chain::new();
+    // Taken apart by let else and not by `?`: the form is fixed for the scan, whose refusal is passed out unchanged.
     let answer = check_into(image, &mut chain);
     let Ok(_) = answer else {
         return answer;

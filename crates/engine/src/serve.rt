@@ -68,6 +68,7 @@ fn report_call(report: &mut [u8], i: usize, a: CallResult)
 }
 
 // The events of a call are appended to the journal; the number of events now in it.
+// The journal and a count, not `Lent`: the fields are lent apart, as in `serve`.
 fn append_events(journal: &mut [u8], events: usize, position: u8, a: CallResult) -> usize
     requires { event_length * events + 2 * event_length ≤ length journal.old }
     ensures count { result ≡ events + length (outcome_of a).events }
@@ -101,7 +102,7 @@ fn write_working(i: usize, a: CallResult, state: &mut [u8], report: &mut [u8])
 }
 
 impl<'a> Lent<'a> {
-    // What a call of the block at index i leaves is written.
+    // What a call of the block at index i leaves is written. That i has a position is asked: the table, which says it, is no part of this.
     fn write_call(&mut self, i: usize, a: CallResult)
         requires few { i < most_slots }
         requires own { record_length * i + record_length ≤ length self.old.state.now }

@@ -78,6 +78,7 @@ fn check_lent(table: &Table, report: &[u8], journal: &[u8]) -> Checked<()>
 }
 
 /// Every check of the scan below the table's, from the top down.
+// Slices and no `Lent`: the checks only read, before a `Lent` is made.
 #[tactic(auto, unfolding(crate::specs::Verify::verify_of))]
 pub fn verify(
     table: &Table,

@@ -8,10 +8,10 @@ use mathlib.Core.Bool.{Bool, true, false, cond, ◌&&◌}
 use mathlib.Core.List.{List, [], ◌∷◌, ◌++◌}
 use mathlib.Core.Path.{◌≡◌, refl, ap, sym, ◌∙◌}
 use lib.Dec.{eqb, leb}
-use lib.ListN.{length, take, drop, get_or, set, replicate, length-set}
+use lib.ListN.{length, take, drop, get_or, set, replicate}
 use lib.Seq.{drop-drop, take_at, drop_at, get_or-set_same, get_or-set_other}
 use borrow.Author.Tests.{leb-true, le-leb, eqb-true, eq-eqb, ne_eqb}
-use Rattle.membership.proofs.Logic.{by_test, not_both, and_left, and_right, and_join}
+use Rattle.membership.proofs.Logic.{by_test, and_left, and_right}
 use Rattle.image.specs.Image.{most_slots}
 use Rattle.layout.specs.Buffer.{event_length, part}
 use Rattle.layout.specs.EventLayout.{decode_event, decode_events, events_at}

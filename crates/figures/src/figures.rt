@@ -19,7 +19,7 @@ pub struct Figures {
     pub left_open: u32,
 }
 
-/// Column by column, where each sum has at most four bytes.
+/// Column by column, of counts of at most 2,147,483,647 each.
 impl Add for Figures {
     type Output = Figures;
 

@@ -20,6 +20,7 @@ pub struct Tally {
 }
 
 // Whether there is a count of such events.
+// Two tests and no `get`: a row and then a count that may be missing are two ways to do nothing, which is no plainer.
 fn has_count(position: u8, kind: u8) -> bool
     ensures { result ≡ has_count position kind }
 {
@@ -37,6 +38,7 @@ impl Tally {
     }
 
     /// How many events of a kind a position has.
+    // The bound of a position is asked and no type: positions are read off any bytes.
     pub fn count(&self, position: u8, kind: u8) -> u32
         requires { (position ≤ most_slots) × (kind ≤ Withdrawn) }
         ensures { result ≡ counts_of self.now position kind }
@@ -45,6 +47,7 @@ impl Tally {
     }
 
     /// One event more. One of a position or kind that has no count, which no accepted journal has, is not counted.
+    // That a count fits is asked: it rests on the length of the journal.
     pub fn add(&mut self, position: u8, kind: u8)
         requires { CountFits (counts_of self.old) position kind }
         ensures { counts_of self.new ≡ counted (counts_of self.old) position kind }

@@ -10,12 +10,14 @@ use refusal::Answer;
 use std::{fmt, io};
 
 // Bytes of an image of one slot.
+// As in the other program: each stands on its own.
 const ONE_SLOT: usize = HEADER_LENGTH + SLOT_LENGTH;
 
 // Bytes of an image of two slots.
 const TWO_SLOTS: usize = HEADER_LENGTH + 2 * SLOT_LENGTH;
 
 // Two blocks of kind 1: LANE0 in slot 1, LANEO in slot 2.
+// As in the other program: each stands on its own.
 fn two_lanes() -> [u8; TWO_SLOTS]
     ensures { image_length 2 ≡ length result }
 {

@@ -6,7 +6,7 @@ use native.Mathlib.Omega.{arith}
 use mathlib.Core.Bool.{Bool, true, false, cond}
 use mathlib.Core.List.{List, [], ◌∷◌}
 use mathlib.Core.Logic.{◌≢◌}
-use mathlib.Core.Option.{Option, none, some}
+use mathlib.Core.Option.{Option, none, some, some-ne-none}
 use mathlib.Core.Path.{◌≡◌, refl, ap, sym, ◌∙◌, subst}
 use lib.Dec.{leb}
 use lib.ListN.{length, take}
@@ -14,7 +14,8 @@ use lib.Seq.{take-take}
 use borrow.Author.Tests.{eq-eqb, ne_eqb, le-leb}
 use Rattle.membership.specs.Membership.{within}
 use Rattle.membership.proofs.MembershipLaws.{within_bounds}
-use Rattle.membership.proofs.Logic.{not_both, and_left, and_right, and_join}
+use Rattle.membership.proofs.Logic.{not_both, and_left, and_right}
+use Rattle.std.proofs.lemmas.Bool.{and_from}
 use Rattle.table.specs.Blocks.{Block, block_at}
 use Rattle.layout.specs.EventLayout.{events_at}
 use Rattle.layout.specs.declared.event.Posted.{Posted}
@@ -60,14 +61,11 @@ module _ (blocks : List Block) (jobs : OpenJobs) (e : Posted) where
       let own = g.position in
       let inside = g.within in
       let index : e.position - 1 ≡ k = omega arith in
-      and_join in_table takes
-      (and_join (leb 1 e.position) (leb e.position (length blocks)) (le-leb 1 e.position (omega arith)) (le-leb e.position (length blocks) (omega arith)))
+      and_from in_table takes
+      (and_from (leb 1 e.position) (leb e.position (length blocks)) (le-leb 1 e.position (omega arith)) (le-leb e.position (length blocks) (omega arith)))
       (rw (index, own) g.turn)
 
--- a number is not none, and a list with an event is not empty
-pub some_not_none : {A : Type 0} {n : ℕ} → some n ≡ none → A
-some_not_none h = let z : ◌≡◌ {A = ℕ} 0 1 = cc in absurd (omega arith)
-
+-- a list with an event is not empty
 pub cons_not_nil : {A : Type 0} {v : Event} {vs : List Event} → v ∷ vs ≡ [] → A
 cons_not_nil h = let z : ◌≡◌ {A = ℕ} 0 1 = cc in absurd (omega arith)
 
@@ -177,7 +175,7 @@ module _ (blocks : List Block) (es : List Posted) where
 
   accepted : (x : Option ℕ) → Found blocks none_open 0 es x → x ≡ none → Allowed blocks es
   accepted none (good f) h = to_allowed es f
-  accepted (some n) (bad m number i l f g) h = some_not_none h
+  accepted (some n) (bad m number i l f g) h = absurd (some-ne-none n h)
 
   accepts : (x : Option ℕ) → Found blocks none_open 0 es x → Allowed blocks es → x ≡ none
   accepts none (good f) a = refl
@@ -189,7 +187,7 @@ module _ (blocks : List Block) (es : List Posted) where
 
   refused : (x : Option ℕ) → Found blocks none_open 0 es x → (n : ℕ) → x ≡ some n
       → (1 ≤ n) × (n ≤ length es) × ((m : ℕ) → m < n → Allowed blocks (take m es)) × (Allowed blocks (take n es) → ⊥)
-  refused none (good f) n h = some_not_none (sym h)
+  refused none (good f) n h = absurd (some-ne-none n (sym h))
   refused (some k) (bad m number i l f g) n h =
       let same : number ≡ n = cc in
       let e : n ≡ suc m = omega arith in

@@ -16,7 +16,7 @@ use Rattle.layout.specs.declared.event.Posted.{Posted}
 use Rattle.layout.proofs.EventLaws.{decode_first}
 use Rattle.journal.specs.Check.{OpenJobs, none_open, opened_by, is_good, first_bad, events_of}
 
--- no job is open at first
+-- no job is open at first; std's get_or-replicate asks that p < n, and here p is any number
 none_at : (n p : ℕ) → get_or (replicate n false) p false ≡ false
 none_at zero p = refl
 none_at (suc n) zero = refl

@@ -16,6 +16,7 @@ use table::check::check_into;
 use table::table::Table;
 
 // Whether a table of so many blocks has this position.
+// Two tests: `(1..=count).contains(..)` would want the position as a `usize` and a reference to it, and is no plainer.
 fn is_position(position: u8, count: usize) -> bool
     ensures { result ≡ within 1 count position }
 {
@@ -23,6 +24,7 @@ fn is_position(position: u8, count: usize) -> bool
 }
 
 // Whether an event is good after those that left these jobs open: a position in the table, and its block's turn.
+#[inline(always)]
 #[tactic(auto, unfolding(crate::specs::Check::is_good))]
 fn is_good(table: &Table, open_jobs: &OpenJobs, posted: Posted) -> bool
     ensures good { result ≡ is_good (blocks_of table.now) (jobs_of open_jobs.now) posted }

@@ -12,7 +12,7 @@ pub struct Kind {
     byte: u8,
 }
 
-// Clauses see the byte.
+// Clauses see the byte: a kind is its number in the rules.
 impl Model for Kind {
     ghost use Rattle.std.specs.Prelude.{ℕ};
 
@@ -31,7 +31,9 @@ impl From<u8> for Kind {
     }
 }
 
+// Each property is a match with ranges, where there are ranges, on the byte: the form is fixed for the project.
 impl Kind {
+    /// The kind byte: 1 to 14 of a block of an accepted table.
     pub fn byte(self) -> u8
         ensures { result ≡ self }
     {

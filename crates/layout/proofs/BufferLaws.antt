@@ -110,6 +110,7 @@ module _ (size i : ℕ) (v s : List ℕ) (full : length v ≡ size) (fits : size
 pub part_byte : (size i at : ℕ) (s : List ℕ) → at < size → byte_at s (size * i + at) ≡ byte_at (part size i s) at
 part_byte size i at s l = sym (get_or-take size (drop (size * i) s) at 0 l ∙ get_or-drop (size * i) s at 0)
 
+-- std's length-take-le and length-drop in one, of a part, which is a definition of this crate
 pub part_length : (size i : ℕ) (s : List ℕ) → size * i + size ≤ length s → length (part size i s) ≡ size
 part_length size i s h = length-take-le size (drop (size * i) s) (simp length-drop (omega arith))
 
@@ -148,6 +149,7 @@ pub put_from : (a n : ℕ) (v xs : List ℕ) → length v ≡ n → put a v xs �
 put_from a n v xs full = rw (drop-drop, full)
 
 -- `&mut xs[a..]`: what is lent, what is left where it became ys, and where its first n bytes were written
+-- std's take-put_mid and drop-put_mid are of a take or a drop of what is left; these two are of what is lent, and of all that is left
 pub lent_part : (a : ℕ) (xs : List ℕ) → mid_of a (length xs - a) xs ≡ drop a xs
 lent_part a xs = take_all (length xs - a) (drop a xs) (simp length-drop (omega arith))
 
@@ -248,6 +250,7 @@ put_lent a n v xs ys h e =
     ∙ rw (e, lent_part a xs) (sym (put_right n v (take a xs) (drop a xs)) ∙ (λ j. put (l j + n) v (take-append-drop a xs j)))
 
 -- bytes stay bytes
+-- std's All-take, All-drop, All-append and All-replicate are of All, which is of the places of a list; Bytes is of every place, and past the end it reads 0
 pub bytes_take : (n : ℕ) (l : List ℕ) → Bytes l → Bytes (take n l)
 bytes_take zero l b i = omega arith
 bytes_take (suc n) [] b i = omega arith

@@ -21,7 +21,8 @@ use Rattle.layout.specs.EntryLayout.{encode_piece, decode_piece, encode_pieces, 
 use Rattle.layout.proofs.Fits.{All, nil, cons, PieceFits, EntryFits}
 use Rattle.layout.proofs.BitLaws.{inputs_bound, inputs_trip, inputs_back}
 use Rattle.layout.proofs.BufferLaws.{bytes_append, bytes_cons, bytes_zeros}
-use Rattle.membership.proofs.Logic.{and_right, and_join}
+use Rattle.membership.proofs.Logic.{and_right}
+use Rattle.std.proofs.lemmas.Bool.{and_from}
 use Rattle.block.proofs.Tests.{each}
 use Rattle.layout.proofs.FieldLaws.{field_bound, field_back, field_last, zero_back, byte_back}
 
@@ -266,7 +267,7 @@ entry_fits_lem s h = and_right (entry_form s) (entry_fits (decode_entry s)) h
 pub entry_encode : (e : Entry) → EntryFits e → entry_fits e ≡ true → entry_bytes (encode_entry e) ≡ true
 unfolding entry_bytes
 entry_encode e f h =
-    and_join (entry_form (encode_entry e)) (entry_fits (decode_entry (encode_entry e))) (encode_form e f.four) (ap entry_fits (decode_encode e f) ∙ h)
+    and_from (entry_form (encode_entry e)) (entry_fits (decode_entry (encode_entry e))) (encode_form e f.four) (ap entry_fits (decode_encode e f) ∙ h)
 
 -- a piece in the number of its eight bytes, for `decode_entry`
 pub packed_piece : (s : List ℕ) (at : ℕ) → Bytes s → at + piece_length ≤ length s → piece_of (number_at piece_length s at) ≡ decode_piece s at

@@ -9,7 +9,8 @@ use lib.Dec.{eqb, leb}
 use lib.ListN.{length, take, drop, replicate, length-drop, take-append-drop, drop_of_length-le}
 use lib.Seq.{drop-cons, drop-drop, length-take-le}
 use borrow.Author.Tests.{eqb-true, leb-true, eq-eqb, le-leb}
-use Rattle.membership.proofs.Logic.{same, and_left, and_right, and_join}
+use Rattle.membership.proofs.Logic.{same, and_left, and_right}
+use Rattle.std.proofs.lemmas.Bool.{and_from}
 use Rattle.words.specs.Word.{Bytes, bytes, number_at, zero_at}
 use Rattle.words.proofs.WordLaws.{number_one, number_split, number_bound, bytes_number}
 use Rattle.words.proofs.ZeroLaws.{zero_bytes}
@@ -58,5 +59,5 @@ module _ (s : List ℕ) (i : ℕ) (h : i + 2 ≤ length s) where
       parts : (n a b : ℕ) → n ≡ a + 256 * b → leb n m ≡ leb a m && eqb b 0
       parts n a b e =
           same (leb n m) (leb a m && eqb b 0)
-          (λ t. let z : n ≤ m = leb-true n m t in and_join (leb a m) (eqb b 0) (le-leb a m (omega arith)) (eq-eqb b 0 (omega arith)))
+          (λ t. let z : n ≤ m = leb-true n m t in and_from (leb a m) (eqb b 0) (le-leb a m (omega arith)) (eq-eqb b 0 (omega arith)))
           (λ t. let p : a ≤ m = leb-true a m (and_left (leb a m) (eqb b 0) t) in let q : b ≡ 0 = eqb-true b 0 (and_right (leb a m) (eqb b 0) t) in le-leb n m (omega arith))

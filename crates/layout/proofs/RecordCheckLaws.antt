@@ -12,7 +12,8 @@ use borrow.Author.Tests.{eqb-true, eqb-false, eq-eqb}
 use Rattle.words.specs.Word.{Bytes, number_at, all_zero, zero_at}
 use Rattle.words.proofs.WordLaws.{number_one, number_split}
 use Rattle.words.proofs.ZeroLaws.{zero_at_lem, zero_is, is_zero, zero_byte, zero_split, zero_last, zero_bytes}
-use Rattle.membership.proofs.Logic.{same, not_both, and_join}
+use Rattle.membership.proofs.Logic.{same, not_both}
+use Rattle.std.proofs.lemmas.Bool.{and_from}
 use Rattle.block.specs.Record.{Dormant, Executing, fresh_record}
 use Rattle.block.specs.Sound.{busy_only, zeroed, flags_fit, code_sound, request_sound, step_sound, times_sound, sound}
 use Rattle.block.specs.declared.record.Record.{Record}
@@ -123,7 +124,7 @@ module _ (s : List ℕ) (l : record_length ≤ length s) where
                 elapsed = zero_is 8 record_offset.elapsed s p.1.1.1.1.1.1.1.1.1.1.0 i;
               };
         } in
-        and_join (record_form s) (sound k (decode_record s)) form (ap (sound k) fresh)
+        and_from (record_form s) (sound k (decode_record s)) form (ap (sound k) fresh)
 
     sound_zero : sound_bytes k s ≡ true → zero_at record_length s 0 ≡ true
     unfolding decode_record

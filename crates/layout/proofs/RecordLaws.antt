@@ -18,7 +18,8 @@ use Rattle.layout.specs.Buffer.{record_length, byte_at, job_width, put}
 use Rattle.layout.specs.RecordLayout.{flags_byte, record_offset, encode_record, decode_record, encode_timer, record_form, sound_bytes}
 use Rattle.layout.proofs.Fits.{RecordFits}
 use Rattle.layout.proofs.BitLaws.{bit_le, bit_trip, bit_back, flags_bound, flags_trip, flags_back}
-use Rattle.membership.proofs.Logic.{and_left, and_right, and_join}
+use Rattle.membership.proofs.Logic.{and_left, and_right}
+use Rattle.std.proofs.lemmas.Bool.{and_from}
 use Rattle.block.proofs.Tests.{each}
 use Rattle.layout.proofs.BufferLaws.{put_middle}
 use Rattle.layout.proofs.FieldLaws.{field_back, field_last, zero_back, byte_back}
@@ -121,4 +122,4 @@ sound_record k s h = and_right (record_form s) (sound k (decode_record s)) h
 
 pub sound_encode : (k : ℕ) (r : Record) → RecordFits r → sound k r ≡ true → sound_bytes k (encode_record r) ≡ true
 unfolding sound_bytes
-sound_encode k r f h = and_join (record_form (encode_record r)) (sound k (decode_record (encode_record r))) (encode_form r) (ap (sound k) (decode_encode r f) ∙ h)
+sound_encode k r f h = and_from (record_form (encode_record r)) (sound k (decode_record (encode_record r))) (encode_form r) (ap (sound k) (decode_encode r f) ∙ h)

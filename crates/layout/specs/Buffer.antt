@@ -26,5 +26,6 @@ abbrev pub byte_at : List ℕ → ℕ → ℕ
 byte_at s i = slice_index s i
 
 -- part i, from 0, of a buffer whose parts have `size` bytes each
+-- std's slice_range is told both ends; a part is told its size and its number
 abbrev pub part : ℕ → ℕ → List ℕ → List ℕ
 part size i s = take size (drop (size * i) s)

@@ -135,6 +135,7 @@ fn head_fits(s: &[u8; ENTRY_BYTES]) -> bool
 
 #[tactic(auto, using(crate::proofs::EntryCheckLaws::piece_within))]
 // A piece of the count: its reply and the zero byte after it, then its code.
+// A place and no array: a piece is tested where it stands in the entry.
 fn piece_form(s: &[u8], at: usize) -> bool
     requires { at + piece_length ≤ length s.now }
     ensures { result ≡ piece_zero s.now at && piece_form (decode_piece s.now at) }
@@ -156,6 +157,7 @@ fn piece_fits(s: &[u8], at: usize, i: u8, count: u8) -> bool
 }
 
 // All four pieces are zero.
+// By words: what is absent is one number that is zero (docs/PERFORMANCE.md, What was done).
 fn pieces_zero(s: &[u8; ENTRY_BYTES]) -> bool
     ensures { result ≡ zero_at (piece_length * most_pieces) s.now head_length }
 {

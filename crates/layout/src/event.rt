@@ -39,6 +39,7 @@ pub fn write_event(out: &mut [u8], position: u8, v: Event)
     put_at(out, JOB_OFFSET, v.job);
 }
 
+// A slice and no array: a reader that goes by `chunks_exact` would have to make an array of each part first, which is no plainer.
 /// The event in its bytes, which are the first of those given.
 #[tactic(auto, unfolding(crate::specs::EventLayout::decode_event))]
 pub fn decode_event(s: &[u8]) -> Posted

@@ -31,6 +31,7 @@ pub const CODE_OFFSET: usize = 4;
 pub const JOB_OFFSET: usize = 8;
 
 /// What a report entry states of a call. `flags` is the byte of flags; `used` are the pieces used.
+// The byte of flags, and no `Flags`: an entry is read off any bytes, and `Flags` would drop bits 4 to 7.
 #[derive(Clone, Copy)]
 pub struct Report {
     pub flags: u8,
@@ -96,6 +97,7 @@ pub fn write_report(out: &mut [u8], a: CallResult)
 
 #[tactic(auto, unfolding(words::specs::Word::bytes))]
 /// The first bytes of what is lent become the entry of a call of one pass that leaves its block at Executing: busy alone, no code.
+// Beside `write_report`, as `write_timer` is beside `write_record`: 2,000 of 31,900 instructions less at 64 working blocks.
 pub fn write_working_report(out: &mut [u8], used: u8, job: u64)
     requires { report_length ≤ length out.old }
     ensures { out.new ≡ working_report used job ++ drop report_length out.old }

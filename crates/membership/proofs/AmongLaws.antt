@@ -10,7 +10,7 @@ use lib.ListN.{length, get_or, take}
 use Rattle.membership.specs.Membership.{among}
 use Rattle.membership.proofs.Logic.{by_test, not_both}
 
--- one more at the end
+-- one more at the end; std's list_any-append is of list_any, and leaves list_any of the last alone, which is a test or false
 pub among_snoc : (k : ℕ) (xs : List ℕ) (x : ℕ) → among k (xs ++ (x ∷ [])) ≡ (among k xs || eqb x k)
 among_snoc k [] x = by_test (eqb x k) (λ e. simp e) (λ e. simp e)
 among_snoc k (y ∷ ys) x = by_test (eqb y k) (λ e. simp e) (λ e. simp (e, among_snoc k ys x))
@@ -27,7 +27,7 @@ not_among k [] h = refl
 not_among k (x ∷ xs) h =
     by_test (eqb x k) (λ e. absurd (h 0 (omega arith) (eqb-true x k e))) (λ e. simp (e, not_among k xs (λ i l q. h (suc i) (omega arith) q)))
 
--- every element is of 1 to n
+-- every element is of 1 to n; std's All is of places and any default, where this is a pair for each element, which the laws take apart by `.0` and `.1`
 abbrev pub AllIn : ℕ → List ℕ → Type 0
 AllIn n [] = Unit {0}
 AllIn n (x ∷ xs) = (0 < x) × (x ≤ n) × AllIn n xs

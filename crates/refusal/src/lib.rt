@@ -54,7 +54,8 @@ pub struct Refusal {
 /// A value, or the first check that fails.
 pub type Checked<T> = Result<T, Refusal>;
 
-/// What every entry point answers: a number, or the first check that fails.
+/// What the entry points but `show` and `totals` answer: a number, or the first check that fails.
+// Clauses say an answer and its numbers (`answer_of`): the form is fixed for the project.
 pub type Answer = Checked<usize>;
 
 impl Refusal {

@@ -1,9 +1,9 @@
 -- One event more: two scans, of which the first writes it and the second settles its block, while every other block is held at rest; and so all events of a journal. For the theorem that an
 -- accepted journal is written.
-use Rattle.std.proofs.Common.{◌≡◌, ℕ, zero, suc, ◌-◌, ◌<◌, ◌≢◌, Bool, true, cond, eqb, List, [], ◌∷◌, ◌++◌, length, Ok, refl, ap, sym, ◌∙◌, subst, arith, append-nil, append_assoc, eq-eqb, ne_eqb}
+use Rattle.std.proofs.Common.{◌≡◌, ℕ, zero, suc, ◌-◌, ◌<◌, ◌≢◌, Bool, true, false, cond, eqb, List, [], ◌∷◌, ◌++◌, length, Ok, refl, ap, sym, ◌∙◌, subst, arith, append-nil, append_assoc, eq-eqb, ne_eqb}
 use Rattle.std.proofs.Math.Decide.{ℕ_discrete, dec_lt}
 use Rattle.std.proofs.Math.Logic.{by_cases}
-use Rattle.std.proofs.Math.Option.{Option, none, some}
+use Rattle.std.proofs.Math.Option.{Option, none, some, some-ne-none}
 use Rattle.table.specs.Blocks.{blocks_of}
 use Rattle.layout.specs.EventLayout.{events_at}
 use Rattle.layout.specs.declared.event.Posted.{Posted}
@@ -17,7 +17,7 @@ use Rattle.block.proofs.TurnLaws.{Turn, turn_cases}
 use Rattle.engine.specs.Fresh.{fresh_of}
 use Rattle.run.specs.Scans.{Scans, ◌and_then◌, FramesAreBytes, journal_of}
 use Rattle.journal.specs.Check.{OpenJobs, opened_by, is_good, first_bad}
-use Rattle.journal.proofs.CheckIsExact.{good_at, some_not_none, cons_not_nil}
+use Rattle.journal.proofs.CheckIsExact.{good_at, cons_not_nil}
 use Rattle.replay.specs.Written.{NoWires, EachAccepted, and_scan}
 use Rattle.replay.proofs.Moves.{at_rest, hold_entry, turn_entry, called_with, hold_call, Writes, turn_written, hold_form, turn_form, hold_fits, turn_fits}
 use Rattle.replay.proofs.OneScan.{scan_with, kind_at, record_at, written, Scanned, one_scan}
@@ -176,7 +176,8 @@ module _ (image buffer : List ℕ) (n : ℕ) (fresh : (fresh_of image buffer).an
 
   -- an event of which none is bad is good
   good_first : (b : Bool) (x : Option ℕ) (m : ℕ) → cond b x (some m) ≡ none → b ≡ true
-  good_first b x m h = grind (arith, some_not_none)
+  good_first true x m h = refl
+  good_first false x m h = absurd (some-ne-none m h)
 
   pub all_events : (m : ℕ) {es : List Posted} → All (λ e. EventFits e.event) es → (h : Scans) (jobs : OpenJobs) → Rests image buffer h jobs
       → first_bad (blocks_of image) jobs m es ≡ none → Grown h es

@@ -23,6 +23,7 @@ use Rattle.block.specs.declared.executing.Work.{Work}
 use Rattle.block.specs.declared.executing.Bounds.{Bounds}
 use Rattle.block.specs.declared.pass.Pass.{Pass}
 
+-- std's All-append and All-take are of its All, by places; these are of the All of layout's Fits, whose proofs are taken apart by cases
 pub all_append : {A : Type 0} {P : A → Type 0} {l m : List A} → All P l → All P m → All P (l ++ m)
 all_append nil y = y
 all_append (cons h x) y = cons h (all_append x y)

@@ -9,7 +9,7 @@ use Rattle.table.proofs.AcceptedLaws.{accepted_blocks, accepted_kind}
 use Rattle.layout.specs.Buffer.{record_length, part}
 use Rattle.layout.specs.RecordLayout.{record_form, sound_bytes}
 use Rattle.layout.specs.EventLayout.{events_at}
-use Rattle.membership.proofs.Logic.{and_join}
+use Rattle.std.proofs.lemmas.Bool.{and_from}
 use Rattle.block.specs.History.{fresh, events_of, record_after}
 use Rattle.block.specs.BlockInvariant.{MachineHistory, no_call}
 use Rattle.block.specs.Sound.{sound}
@@ -99,7 +99,7 @@ module _ (image buffer : List ℕ) (n : ℕ) (m : FreshMade image buffer n) wher
   sound_after {h} x k l =
       let s = kept_after k l x in
       let p = block_invariant (block_at (blocks_of image) k).kind (history_of image buffer k h) s.made in
-      and_join (record_form (part record_length k (state_after image buffer h)))
+      and_from (record_form (part record_length k (state_after image buffer h)))
       (sound (block_at (blocks_of image) k).kind (record_in (state_after image buffer h) k))
       ((held_after x).form k l) (rw s.record_is p.sound)
 

@@ -51,6 +51,7 @@ pub fn put_line(page: &mut Page, name: &[u8], f: Figures)
 }
 
 /// The line of a refusal.
+// A number and no `Check`: any number is printed, and a narrower type would ask more of callers.
 pub fn put_refused(page: &mut Page, number: u8)
     requires { HasRoom line_room page.old }
     ensures { Writes (refused_line number) page.old page.new }

@@ -25,6 +25,7 @@ use Rattle.membership.proofs.AmongLaws.{among_at, AllIn, all_snoc, all_at}
 use Rattle.table.proofs.PositionLaws.{position_snoc, position_zero, position_some, position_test}
 use Rattle.table.proofs.Walk.{unmet_nil, unmet_more, unmet_none, walk_ends, walk_above, walk_again, walk_onward}
 
+-- std's get_or-replicate asks that k < n; here k is any number, and past the end the default is read
 zero_at_lem : (n k : ℕ) → get_or {A = ℕ} (replicate n 0) k 0 ≡ 0
 zero_at_lem zero k = refl
 zero_at_lem (suc n) zero = refl

@@ -13,6 +13,6 @@ use Rattle.table.specs.Refusals.{answers_due, answers_made, image, check_rows, f
 
 pub table_refusals : TableRefusals
 unfolding answers_due answers_made image check_rows find_rows
-    find_of tag_position check_of verdict_of header_check walked walk_in unmet records_check  record_check tag_among
-    tag_form tag_text tag_char padded spaces same_bytes spares_check  all_zero is_kind has_abort
+    find_of tag_position check_of verdict_of header_check walked walk_in unmet records_check record_check tag_among
+    tag_form tag_text tag_char padded spaces same_bytes spares_check all_zero is_kind has_abort
 table_refusals = record { check = refl; find = refl }

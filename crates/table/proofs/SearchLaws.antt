@@ -13,9 +13,8 @@ use Rattle.table.specs.Tag.{tag_form, same_bytes}
 use Rattle.table.specs.Chain.{chain_of}
 use Rattle.table.specs.Check.{check_of}
 use Rattle.table.specs.Lookup.{tag_position, some_position, found_at, tag_checks, find_of, show_of, slot_at}
-use Rattle.std.specs.Prelude.{Some, None, Ok, Err}
+use Rattle.std.specs.Prelude.{Some, None, Ok}
 use Rattle.refusal.specs.Refusal.{refused}
-use Rattle.refusal.specs.declared.Refusal.{Refusal}
 use Rattle.refusal.specs.declared.Place.TheVariants.{Header}
 use Rattle.refusal.specs.declared.Check.TheVariants.{UnknownTag}
 use Rattle.membership.proofs.Logic.{by_test}
@@ -33,9 +32,6 @@ unfolding tag_position
 position_within image tag p [] = omega arith
 position_within image tag p (k ∷ slots) =
     by_test (same_bytes (tag_of image k) tag) (λ e. simp e (omega arith)) (λ e. simp e (omega (arith, position_within image tag (suc p) slots)))
-
-pub searching_start : (image tag : List ℕ) → Searching image tag 0
-searching_start image tag = record { within = omega arith; onward = refl }
 
 module _ (image tag : List ℕ) (n i : ℕ) (ok : check_of image ≡ Ok n) (r : Searching image tag i) where
   position_at : i < n → tag_position image tag (i + 1) (drop i (chain_of image))
@@ -74,10 +70,6 @@ module _ (image tag : List ℕ) where
   tag_at p f g z = simp (f, sym g) (some_found p (omega arith))
 
   -- find, by the table's checks
-  pub find_refused : (r : Refusal) → check_of image ≡ Err r → Err r ≡ find_of image tag
-  unfolding find_of
-  find_refused r e = simp e
-
   pub find_checks : (n : ℕ) → check_of image ≡ Ok n → tag_checks image tag ≡ find_of image tag
   unfolding find_of
   find_checks n e = simp e

@@ -1,16 +1,16 @@
 -- Laws of tags: the form by its length and its first byte, for TagFormLaws and TagNumberLaws; tags compared by their numbers, for the record checks and for find. Only here is `tag_form`
 -- taken apart, and `tag_char` only in the laws of single bytes of TagFormLaws and TagNumberLaws; what is computed unfolds both.
 use Prim.Native.Nat.{ℕ, ◌+◌, ◌≤◌}
-use mathlib.Core.Path.{◌≡◌, refl, ap, sym}
+use mathlib.Core.Path.{◌≡◌, refl, ap, sym, ◌∙◌}
 use mathlib.Core.List.{List, [], ◌∷◌}
 use mathlib.Core.Bool.{true, false, ◌&&◌}
 use native.Mathlib.Omega.{arith}
 use borrow.Author.Tests.{eq-eqb, ne_eqb, eqb-true, eqb-false, ltb-true, ltb-false}
 use lib.Dec.{ltb, eqb}
 use lib.ListN.{length, get_or, drop, length-take, length-drop, get_or-eq_default}
-use lib.Seq.{get_or-take, get_or-drop, length-take-le}
-use Rattle.words.specs.Word.{Bytes, number}
-use Rattle.words.proofs.WordLaws.{number_injective}
+use lib.Seq.{get_or-take, get_or-drop, length-take-le, take_all}
+use Rattle.words.specs.Word.{Bytes, number, number_at, bytes}
+use Rattle.words.proofs.WordLaws.{number_injective, bytes_number}
 use Rattle.image.specs.Image.{slot_start, tag_offset, tag_length, tag_of, HasSlot}
 use Rattle.table.specs.Tag.{tag_char, padded, tag_text, tag_form, same_bytes}
 use Rattle.membership.proofs.Logic.{by_test, not_both, and_left}
@@ -29,7 +29,7 @@ pub form_eight : (t : List ℕ) → tag_form t ≡ true → length t ≡ tag_len
 unfolding tag_form
 form_eight t h = eqb-true (length t) tag_length (and_left _ _ h)
 
--- the same bytes are equal lists
+-- the same bytes are equal lists; std's bytes_eq-Decides says so of its own bytes_eq, these two of same_bytes, the definition of specs/Tag
 pub same_equal : (t u : List ℕ) → same_bytes t u ≡ true → t ≡ u
 unfolding same_bytes
 same_equal [] [] e = refl
@@ -46,6 +46,12 @@ pub same_self : (t : List ℕ) → same_bytes t t ≡ true
 unfolding same_bytes
 same_self [] = refl
 same_self (x ∷ t) = simp (eq-eqb x x refl, same_self t)
+
+-- eight bytes are those of the number that is read of them
+pub tag_back : (t : List ℕ) (wanted : ℕ) → length t ≡ tag_length → Bytes t → wanted ≡ number_at tag_length t 0 → bytes tag_length wanted ≡ t
+tag_back t wanted e b w =
+    let read : wanted ≡ number t = w ∙ ap number (take_all tag_length t (omega (arith, e))) in
+    ap (bytes tag_length) read ∙ bytes_number tag_length t e b
 
 -- two lists of bytes of one length are the same where their numbers are
 pub same_number : (t u : List ℕ) → length t ≡ length u → Bytes t → Bytes u → same_bytes t u ≡ eqb (number t) (number u)

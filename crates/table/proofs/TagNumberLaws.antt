@@ -13,8 +13,8 @@ use lib.ListN.{length}
 use lib.Bits.{bit_and, bit_or, bit_xor, and_block, or_block, xor_block, and_lt, or_lt, xor_lt, and_shr, or_shr, and_high}
 use Rattle.words.specs.Word.{Bytes, number, bytes}
 use Rattle.words.proofs.WordLaws.{length_bytes, bytes_bytes, number_of_bytes, bytes_number}
-use Rattle.membership.proofs.Logic.{by_test, not_both, same, and_left, and_right, and_join}
-use Rattle.std.proofs.lemmas.Bool.{agree_below, agree_below_at}
+use Rattle.membership.proofs.Logic.{by_test, not_both, same, and_left, and_right}
+use Rattle.std.proofs.lemmas.Bool.{and_from, agree_below, agree_below_at}
 use Rattle.image.specs.Image.{tag_length}
 use Rattle.table.specs.Tag.{tag_char, spaces, padded, tag_form}
 use Rattle.table.proofs.TagLaws.{form_first, form_eight}
@@ -41,7 +41,7 @@ xor_cons = by_byte bit_xor (xor_block 8)
 eqb_cons : (x a y b : ℕ) → x < 256 → y < 256 → eqb (x + 256 * a) (y + 256 * b) ≡ (eqb x y && eqb a b)
 eqb_cons x a y b h k =
     same _ _
-    (λ e. let f : x + 256 * a ≡ y + 256 * b = eqb-true _ _ e in and_join _ _ (eq-eqb x y (omega (arith, f))) (eq-eqb a b (omega (arith, f))))
+    (λ e. let f : x + 256 * a ≡ y + 256 * b = eqb-true _ _ e in and_from _ _ (eq-eqb x y (omega (arith, f))) (eq-eqb a b (omega (arith, f))))
     (λ e. let p : x ≡ y = eqb-true x y (and_left _ _ e) in
     let q : a ≡ b = eqb-true a b (and_right (eqb x y) _ e) in
     eq-eqb (x + 256 * a) (y + 256 * b) (omega (arith, p, q)))
@@ -206,7 +206,7 @@ low_first b t l = ltb-true b 128 (and_left _ _ l)
 
 low_join : (b : ℕ) (t : List ℕ) → b < 128 → low t ≡ true → low (b ∷ t) ≡ true
 unfolding low
-low_join b t h l = and_join (ltb b 128) (low t) (lt-ltb b 128 h) l
+low_join b t h l = and_from (ltb b 128) (low t) (lt-ltb b 128 h) l
 
 low_rest : (b : ℕ) (t : List ℕ) → low (b ∷ t) ≡ true → low t ≡ true
 unfolding low
@@ -312,14 +312,14 @@ unfolding spaces low
 spaces_low [] e = refl
 spaces_low (b ∷ t) e =
     let z : b ≡ 0x20 = eqb-true b 0x20 (and_left _ _ e) in
-    and_join _ _ (lt-ltb b 128 (omega arith)) (spaces_low t (and_right (eqb b 0x20) (spaces t) e))
+    and_from _ _ (lt-ltb b 128 (omega arith)) (spaces_low t (and_right (eqb b 0x20) (spaces t) e))
 
 padded_low : (place : ℕ) (t : List ℕ) → padded place t ≡ true → low t ≡ true
 unfolding padded low
 padded_low place [] e = refl
 padded_low place (b ∷ t) e =
     by_test (tag_char place b)
-    (λ c. and_join _ _ (lt-ltb b 128 (character_low place b c)) (padded_low (suc place) t (simp c at e)))
+    (λ c. and_from _ _ (lt-ltb b 128 (character_low place b c)) (padded_low (suc place) t (simp c at e)))
     (λ c. spaces_low (b ∷ t) (simp c at e))
 
 form_low : (t : List ℕ) → tag_form t ≡ true → low t ≡ true

@@ -8,14 +8,14 @@ use native.Mathlib.Omega.{arith}
 use borrow.Author.Tests.{eqb-true}
 use lib.Dec.{ltb, eqb}
 use Rattle.membership.specs.Membership.{among}
-use Rattle.membership.proofs.Logic.{by_test, and_left}
+use Rattle.membership.proofs.Logic.{by_test}
 use Rattle.membership.proofs.AmongLaws.{all_among}
 use Rattle.words.specs.Word.{number_at}
 use Rattle.words.proofs.ZeroLaws.{zero_at_lem, zero_split, zero_pair}
 use Rattle.image.specs.Image.{slot_length, slot_count, slot_start, slot_byte, wire_slot, wire_code, start_wire_offset, abort_wire_offset, HasSlot}
 use Rattle.table.specs.Chain.{chain_of}
 use Rattle.table.specs.Record.{no_wire, wire_ok}
-use Rattle.table.specs.Blocks.{from_frame, wire_of}
+use Rattle.table.specs.Blocks.{wire_of}
 use Rattle.std.specs.Prelude.{is_none}
 use Rattle.table.proofs.ChainLaws.{chain_in}
 

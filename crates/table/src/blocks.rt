@@ -33,6 +33,7 @@ impl Flag {
 }
 
 /// A wired input: a flag of the block at a position, from 1; perhaps inverted.
+// A position and no reference: so the rules name a block.
 #[derive(Clone, Copy, Debug, PartialEq, Eq)]
 pub struct Wire {
     pub position: u8,
@@ -41,6 +42,8 @@ pub struct Wire {
 }
 
 /// Whether a slot has no wire: its four bytes of wires as one number.
+// Both wires as one number: 1,060 of 36,500 instructions less at 64 working blocks (docs/PERFORMANCE.md).
+#[tactic(auto, using(crate::proofs::WireLaws::zero_wires))]
 pub fn no_wires(image: &[u8], slot: u8) -> bool
     requires { HasSlot image.now slot }
     ensures { result
@@ -51,6 +54,7 @@ pub fn no_wires(image: &[u8], slot: u8) -> bool
 }
 
 /// A wire of a slot, by where its two bytes stand; none where the input is the frame's bit.
+// A wire by its offset: one function reads both, and the bound is that of its two bytes.
 pub fn wire_at(image: &[u8], chain: &Chain, slot: u8, wire: usize) -> Option<Wire>
     requires has_slot { HasSlot image.now slot }
     requires wire_bound { wire + 1 < slot_length }

@@ -10,6 +10,7 @@ use refusal::{Check, Checked, Place, Refusal};
 use walker::slot_after;
 
 /// What a walk leaves, lent to it by an entry point: the slots met, the first `count`, in order; and the position of each slot, 0 off the chain.
+// Arrays and a count: there is no heap. 0 and no Option off the chain: it is the byte that a tidy table has there.
 #[derive(Drop)]
 pub struct Chain {
     pub slots: [u8; MOST_SLOTS],
@@ -18,6 +19,8 @@ pub struct Chain {
 }
 
 impl Chain {
+    /// No slot is met.
+    #[tactic(auto, using(crate::proofs::ChainLaws::no_slots))]
     pub fn new() -> Self
         ensures { IsUnmet result }
     {
@@ -29,7 +32,7 @@ impl Chain {
     }
 }
 
-/// The slots of the chain, in order, and their positions.
+/// Checks 5 and 6: the slots of the chain, in order, and their positions.
 pub fn walk(image: &[u8], chain: &mut Chain) -> Checked<()>
     requires header_ok { HeaderOk image.now }
     requires unmet { IsUnmet chain.old }
@@ -40,6 +43,7 @@ pub fn walk(image: &[u8], chain: &mut Chain) -> Checked<()>
     let mut from = Place::Header;
     let n = image[SLOT_COUNT_OFFSET];
     let mut at = slot_after(image, 0);
+    // A `while`: the rules walk the chain to the zero that ends it, so that no length is known before (docs/RULES.md, Table image).
     while at != 0 {
         if n < at {
             return Err(Refusal {
@@ -68,5 +72,8 @@ pub fn walk(image: &[u8], chain: &mut Chain) -> Checked<()>
 pub fn on_chain(chain: &Chain, slot: u8) -> bool
     ensures { result ≡ not (eqb (get_or chain.now.positions slot 0) 0) }
 {
-    chain.positions.get(slot as usize).is_some_and(|&position| position != 0)
+    chain
+        .positions
+        .get(slot as usize)
+        .is_some_and(|&position| position != 0)
 }

@@ -10,7 +10,7 @@ use crate::record::check_records;
 use crate::spare::check_spares;
 use refusal::Answer;
 
-/// All checks: the number of blocks. The chain of an accepted table is left in `chain`, for the layers above.
+/// Checks 1 to 11: the number of blocks. The chain of an accepted table is left in `chain`, for the layers above.
 #[tactic(auto, unfolding(crate::specs::Check::verdict_of, crate::specs::Check::check_of))]
 pub fn check_into(image: &[u8], chain: &mut Chain) -> Answer
     requires { IsUnmet chain.old }
@@ -24,7 +24,7 @@ pub fn check_into(image: &[u8], chain: &mut Chain) -> Answer
     Ok(chain.count)
 }
 
-/// The number of blocks of an accepted table, or the first check that fails.
+/// The number of blocks of an accepted table, 0 to 64, or the first check that fails, of 1 to 11.
 pub fn check(image: &[u8]) -> Answer
     ensures answer { result ≡ check_of image.now }
     ensures numbers { answer_of result ≡ answer_of (check_of image.now) }

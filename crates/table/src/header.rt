@@ -7,6 +7,7 @@ use image::{
 };
 use refusal::{Check, Checked, Refusal};
 
+/// Checks 1 to 4, which look at the header and at the length of the image alone.
 #[tactic(auto, unfolding(crate::specs::Header::header_check))]
 pub fn check_header(image: &[u8]) -> Checked<()>
     ensures answer { result ≡ header_check image.now }

@@ -9,6 +9,6 @@ pub mod chain; // the walk, checks 5 and 6
 pub mod record; // checks 7 to 10
 pub mod spare; // check 11
 pub mod check; // the table checks, 1 to 11
-pub mod blocks; // the kind and the wires of a block
+pub mod blocks; // the wires of a block
 pub mod table; // an accepted table
 pub mod lookup; // find and show, checks 50 and 51

@@ -8,7 +8,7 @@ use crate::check::check_into;
 use crate::table::Table;
 use refusal::Answer;
 
-/// The position of a tag.
+/// The position of a tag, from 1, or the first check that fails, of 1 to 11, 50 and 51.
 #[tactic(auto, unfolding(crate::specs::Lookup::find_of))]
 pub fn find(image: &[u8], tag: &[u8]) -> Answer
     ensures answer { result ≡ find_of image.now tag.now }

@@ -16,6 +16,7 @@ use refusal::{Check, Checked, Refusal};
 use words::read_at;
 
 // One of the fourteen kinds, and bytes 6 and 7 zero, as one number.
+// While the checks run there is no Table yet that has these facts: each asks for header and chain.
 fn kind_ok(image: &[u8], slot: u8) -> bool
     requires { HasSlot image.now slot }
     ensures { result ≡ kind_ok image.now slot }
@@ -25,6 +26,8 @@ fn kind_ok(image: &[u8], slot: u8) -> bool
 }
 
 // Whether a wire's two bytes are zero, as one number: the input is the frame's bit.
+// As one number: with the zero bytes of the slot 550 of 9,900 instructions less in the check of 64 (docs/PERFORMANCE.md).
+#[tactic(auto, using(crate::proofs::WireLaws::slot_pair_zero))]
 fn no_wire(image: &[u8], slot: u8, wire: usize) -> bool
     requires has_slot { HasSlot image.now slot }
     requires wire_bound { wire + 1 < slot_length }
@@ -142,7 +145,7 @@ fn check_record(image: &[u8], chain: &Chain, i: usize, slot: u8, marked: bool) -
     Ok(())
 }
 
-// Checks 7 to 10 of every record, each through all four before the next. A tag that was met has a mark in its place.
+/// Checks 7 to 10 of every record, each through all four before the next. A tag that was met has a mark in its place.
 pub fn check_records(image: &[u8], chain: &Chain) -> Checked<()>
     requires header_ok { HeaderOk image.now }
     requires holds { Holds (chain_of image.now) chain.now }

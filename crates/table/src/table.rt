@@ -16,8 +16,9 @@ use image::{
 use kind::Kind;
 use refusal::{Answer, Check, Refusal};
 use std::marker::Model;
+use words::read_at;
 
-// Clauses see the image that was accepted.
+/// A table that passed checks 1 to 11: its image, and what they left of its chain. Clauses see the image.
 #[derive(Drop)]
 pub struct Table<'i, 'c> {
     image: &'i [u8],
@@ -36,6 +37,7 @@ impl<'i, 'c> Model for Table<'i, 'c> {
     ghost invariant = { λ t. IsAccepted t.image.now t.chain.now };
 }
 
+// The bound of an index is asked: a type for it would have to name its table.
 impl<'i, 'c> Table<'i, 'c> {
     /// An image that passed its checks, and what they left of its chain.
     pub fn new(image: &'i [u8], chain: &'c Chain) -> Self
@@ -63,11 +65,13 @@ impl<'i, 'c> Table<'i, 'c> {
     }
 
     /// The start wire of block i, where it has one.
+    // Start and abort are two functions of one line: with a parameter a caller would name the wire all the same.
     pub fn start_wire(&self, i: usize) -> Option<Wire>
         requires { i < length (blocks_of self.now) }
         ensures { result ≡ (block_at (blocks_of self.now) i).start }
     {
-        wire_at(self.image, self.chain, self.chain.slots[i], START_WIRE_OFFSET)
+        let slot = self.chain.slots[i];
+        wire_at(self.image, self.chain, slot, START_WIRE_OFFSET)
     }
 
     /// The abort wire of block i, where it has one.
@@ -75,7 +79,8 @@ impl<'i, 'c> Table<'i, 'c> {
         requires { i < length (blocks_of self.now) }
         ensures { result ≡ (block_at (blocks_of self.now) i).abort }
     {
-        wire_at(self.image, self.chain, self.chain.slots[i], ABORT_WIRE_OFFSET)
+        let slot = self.chain.slots[i];
+        wire_at(self.image, self.chain, slot, ABORT_WIRE_OFFSET)
     }
 
     /// Whether block i has no wire: both inputs are the frame's bits.
@@ -102,7 +107,8 @@ impl<'i, 'c> Table<'i, 'c> {
         tag_of(self.image, self.chain.slots[i])
     }
 
-    /// The position of the block in a slot; 0 where it has none.
+    /// The position of the block in a slot; 0 where it has none, which is the byte that a tidy table has for it.
+    // The bound of a slot is asked, here and of wires: it is read off a byte.
     pub fn position_of(&self, slot: u8) -> u8
         requires { slot ≤ most_slots }
         ensures { result ≡ position_of slot (chain_of self.now) }
@@ -110,20 +116,23 @@ impl<'i, 'c> Table<'i, 'c> {
         self.chain.positions[slot as usize]
     }
 
-    /// The position of the block with a tag of eight bytes.
+    /// The position of the block with a tag of eight bytes, from 1; none where no block has it.
+    // A `for` that returns, and no `position` of std over the indices: in its closure the bound of the index stays open.
     pub fn position(&self, tag: &[u8]) -> Option<usize>
         requires { length tag.now ≡ tag_length }
         ensures { result ≡ some_position (tag_position self.now tag.now 1 (chain_of self.now)) }
     {
+        let wanted = read_at(tag, 0);
         for i in 0..self.chain.count {
-            if has_tag(self.image, self.chain.slots[i], tag) {
+            let found = has_tag(self.image, self.chain.slots[i], wanted);
+            if found {
                 return Some(i + 1);
             }
         }
         None
     }
 
-    /// Checks 50 and 51: the position of a tag.
+    /// Checks 50 and 51: the position of a tag, from 1.
     pub fn find(&self, tag: &[u8]) -> Answer
         ensures answer { result ≡ tag_checks self.now tag.now }
         ensures within { IfOk result (λ p. (0 < p) × (p ≤ length (blocks_of self.now))) }

@@ -41,7 +41,7 @@ fn number_form(x: u64) -> bool
     (((characters | spaces) & HIGH) == HIGH) & (((characters >> 8) & spaces & HIGH) == 0)
 }
 
-// Eight bytes in tag form.
+/// Whether bytes are eight in tag form (docs/RULES.md, Table image).
 pub fn tag_form(tag: &[u8]) -> bool
     ensures { result ≡ tag_form tag.now }
 {
@@ -51,7 +51,8 @@ pub fn tag_form(tag: &[u8]) -> bool
     number_form(read_at::<u64>(tag, 0))
 }
 
-// Whether a slot's tag is in form.
+/// Whether a slot's tag is in form.
+// Beside `tag_form`: the tag of a slot has its eight bytes, and no length is tested.
 pub fn slot_tag_form(image: &[u8], slot: u8) -> bool
     requires { HasSlot image.now slot }
     ensures { result ≡ tag_form (tag_of image.now slot) }
@@ -59,7 +60,7 @@ pub fn slot_tag_form(image: &[u8], slot: u8) -> bool
     number_form(tag_number(image, slot))
 }
 
-// A slot's tag as one number: two tags are the same where their numbers are.
+/// A slot's tag as one number, its first byte lowest: two tags are the same where their numbers are.
 pub fn tag_number(image: &[u8], slot: u8) -> u64
     requires { HasSlot image.now slot }
     ensures { result ≡ number (tag_of image.now slot) }
@@ -67,11 +68,10 @@ pub fn tag_number(image: &[u8], slot: u8) -> u64
     read_at::<u64>(image, slot_start(slot) + TAG_OFFSET)
 }
 
-/// Whether a slot has this tag, of eight bytes.
-pub fn has_tag(image: &[u8], slot: u8, tag: &[u8]) -> bool
-    requires has_slot { HasSlot image.now slot }
-    requires eight { length tag.now ≡ tag_length }
-    ensures { result ≡ same_bytes (tag_of image.now slot) tag.now }
+/// Whether a slot has the tag that stands for this number: all eight bytes at once.
+pub fn has_tag(image: &[u8], slot: u8, wanted: u64) -> bool
+    requires { HasSlot image.now slot }
+    ensures { result ≡ same_bytes (tag_of image.now slot) (bytes tag_length wanted) }
 {
-    tag_number(image, slot) == read_at::<u64>(tag, 0)
+    tag_number(image, slot) == wanted
 }

@@ -10,6 +10,7 @@ pub struct Page<'a> {
     pub end: usize,
 }
 
+// Room is asked, not held: a page has any length.
 impl<'a> Page<'a> {
     /// A page whose text begins at the front of the buffer.
     pub fn new(out: &'a mut [u8]) -> Page<'a>
@@ -30,6 +31,7 @@ impl<'a> Page<'a> {
     }
 
     /// A number in decimal.
+    // By hand and no `write!`: what is on the page is said by equation, and no write here can fail.
     pub fn put_decimal(&mut self, n: u32)
         requires { HasRoom (length (decimal n)) self.old }
         ensures { Writes (decimal n) self.old self.new }

@@ -5,11 +5,13 @@ ghost use Rattle.table.specs.Blocks.{blocks_of, block_at};
 ghost use Rattle.tidy.specs.Encode.{encode_next, encode_fields, encode_slot, encode_slots, encode_header, encode_table, encoded_length};
 
 use image::{
-    ABORT_WIRE_OFFSET, HEADER_LENGTH, KIND_OFFSET, SLOT_LENGTH, START_WIRE_OFFSET, TAG_OFFSET,
+    ABORT_WIRE_OFFSET, HEADER_LENGTH, KIND_OFFSET, SLOT_LENGTH, START_WIRE_OFFSET, TAG_LENGTH,
+    TAG_OFFSET,
 };
 use table::table::Table;
 
 /// The length of a table of n blocks without spares, in bytes; of none it has one slot.
+// The bound of n is asked, here and below: it is the number of blocks of a table, which is no part of this.
 pub fn encoded_length(n: usize) -> usize
     requires { n ≤ most_slots }
     ensures { result ≡ encoded_length n }
@@ -54,6 +56,14 @@ fn encode_fields(table: &Table, i: usize) -> [u8; TAG_OFFSET]
     ]
 }
 
+// The tag of block i, as a value: a copy straight from the image tests for each block whether the two parts overlap, six instructions more.
+fn encode_tag(table: &Table, i: usize) -> [u8; TAG_LENGTH]
+    requires { i < length (blocks_of table.now) }
+    ensures { result ≡ (block_at (blocks_of table.now) i).tag }
+{
+    *table.tag(i)
+}
+
 // The sixteen bytes of a slot become those of block i.
 #[tactic(auto, unfolding(crate::specs::Encode::encode_slot))]
 fn encode_slot(out: &mut [u8], table: &Table, i: usize)
@@ -63,7 +73,7 @@ fn encode_slot(out: &mut [u8], table: &Table, i: usize)
 {
     let (fields, tag) = out.split_at_mut(TAG_OFFSET);
     fields.copy_from_slice(&encode_fields(table, i));
-    tag.copy_from_slice(table.tag(i));
+    tag.copy_from_slice(&encode_tag(table, i));
 }
 
 // The slots become those of all blocks.

@@ -8,6 +8,8 @@ use Rattle.std.proofs.KnownBytes.{Consumes-trans}
 use Rattle.std.specs.declared.option.Option.{Option}
 use Rattle.sheet.specs.Totals.{most_input, totals_of}
 use Rattle.sheet.proofs.TotalsLaws.{prints_75}
+use Rattle.totals.specs.declared.Cut.{Cut}
+use Rattle.totals.specs.Failure.{came_count}
 use borrow.Rule.Slice.PartMut.{put_mid, post_of}
 use lib.Seq.{take-add, take-append-le, take-append_seam}
 
@@ -25,7 +27,7 @@ front_printed : (front rest : List ℕ) → most_input < length front → totals
 front_printed front rest long = sym (prints_75 front long) ∙ prints_75 (front ++ rest) (simp length-append (omega arith))
 
 -- all that came is printed, where the reader ended before the buffer was full or the buffer is longer than any input
-pub came_printed : (a b u v : Option (List ℕ)) (came : List ℕ) → Consumes a b came → IsAtEnd b ⊎ (most_input < length came) → Appends u v (totals_of came)
+came_printed : (a b u v : Option (List ℕ)) (came : List ℕ) → Consumes a b came → IsAtEnd b ⊎ (most_input < length came) → Appends u v (totals_of came)
     → IfSome a (λ input. Appends u v (totals_of input))
 came_printed None b u v came read end wrote = tt
 came_printed (Some input) None u v came read end wrote = absurd read
@@ -33,7 +35,7 @@ came_printed (Some input) (Some rest) u v came read (inl end) wrote = subst (λ 
 came_printed (Some input) (Some rest) u v came read (inr long) wrote = subst (Appends u v) (front_printed came rest long ∙ ap totals_of (sym read)) wrote
 
 -- where the reader did not end, the buffer is full
-pub ended_or_full : {P : Type 0} (count : ℕ) (buffer : List ℕ) → count ≤ length buffer → most_input < length buffer → (count < length buffer → P)
+ended_or_full : {P : Type 0} (count : ℕ) (buffer : List ℕ) → count ≤ length buffer → most_input < length buffer → (count < length buffer → P)
     → P ⊎ (most_input < length (take count buffer))
 ended_or_full {P = P} count buffer within room ends = by_room (cases_lt count (length buffer))
   where
@@ -45,8 +47,17 @@ ended_or_full {P = P} count buffer within room ends = by_room (cases_lt count (l
 pub text_front : (text rest after : List ℕ) (end : ℕ) → end ≡ length text → after ≡ text ++ rest → take end after ≡ text
 text_front text rest after end ends holds = ap (λ z. take z after) ends ∙ ap (take (length text)) holds ∙ take-append_seam text rest
 
--- what holds of a value whose error was only renamed
-pub renamed_has : {A E D : Type 0} (P : A → Type 0) (Q : E → Type 0) (before : Result A E) (after : Result A D) (x : A)
-    → IfOk before P → MatchResult before (λ y. after ≡ Ok y) Q → is_ok after ≡ is_ok before → after ≡ Ok x → P x
-renamed_has P Q (Ok y) after x holds same variant is = let e : y ≡ x = cc in subst P e holds
-renamed_has P Q (Err f) after x holds same variant is = let e : false ≡ true = sym variant ∙ ap is_ok is in cc
+-- a value whose error was only renamed was there before
+pub renamed_is : {A E D : Type 0} (Q : E → Type 0) (before : Result A E) (after : Result A D) (x : A)
+    → MatchResult before (λ y. after ≡ Ok y) Q → is_ok after ≡ is_ok before → after ≡ Ok x → before ≡ Ok x
+renamed_is Q (Ok y) after x holds same is = cc
+renamed_is Q (Err f) after x holds same is = let e : false ≡ true = sym same ∙ ap is_ok is in cc
+
+-- what the contract of `read_input` says, where no read failed: all that came is printed
+pub read_printed : (a b u v : Option (List ℕ)) (read : Result ℕ Cut) (count : ℕ) (buffer : List ℕ) → read ≡ Ok count → came_count read ≤ length buffer → most_input < length buffer
+    → Consumes a b (take (came_count read) buffer) → IfOk read (λ n. n < length buffer → IsAtEnd b) → Appends u v (totals_of (take count buffer))
+    → IfSome a (λ input. Appends u v (totals_of input))
+read_printed a b u v (Ok n) count buffer is within room came all wrote =
+    let same : count ≡ n = cc in
+    came_printed a b u v (take n buffer) came (ended_or_full n buffer within room all) (subst (λ z. Appends u v (totals_of (take z buffer))) same wrote)
+read_printed a b u v (Err cut) count buffer is within room came all wrote = cc

@@ -5,7 +5,7 @@
 ghost use Rattle.std.specs.Prelude.{◌≡◌, ◌≤◌, ◌<◌, IfErr, IfOk, IfSome, OnOk, length, take};
 ghost use Rattle.std.specs.Io.KnownBytes.{Appends, Consumes, IsAtEnd, Keeps};
 ghost use Rattle.sheet.specs.Totals.{totals_of};
-ghost use Rattle.totals.specs.Failure.{IsOfInput};
+ghost use Rattle.totals.specs.Failure.{IsOfInput, came_count};
 
 use sheet::sheet::SHEET_ROOM;
 use sheet::totals::{MOST_INPUT, totals};
@@ -16,20 +16,27 @@ use std::io::{ErrorKind, Read, Write};
 // One byte more than an input may have, so that a longer one is seen.
 const INPUT_ROOM: usize = MOST_INPUT + 1;
 
+// A read that failed, and how many bytes had come before it.
+#[derive(Drop)]
+struct Cut {
+    count: usize,
+    error: io::Error,
+}
+
 // Reads until the buffer is full, the input ends or a read fails: a pipe may give any part at a time. How many bytes came.
-// A loop over `read`, not std's `read_to_end`, whose contract says little of a read that fails in mid-stream.
-fn read_input<R: Read>(reader: &mut R, input: &mut [u8]) -> io::Result<usize>
-    ensures count { IfOk result (λ count. (count ≤ length input.new) × (count ≡ length (take count input.new))) }
-    ensures came { IfOk result (λ count. Consumes (R.remaining reader.old) (R.remaining reader.new) (take count input.new)) }
+// A loop over `read`, not std's `read_to_end`, which wants a `Vec` and reads to the end, however long the input.
+fn read_input<R: Read>(reader: &mut R, input: &mut [u8]) -> Result<usize, Cut>
+    ensures count { (came_count result ≤ length input.new) × (came_count result ≡ length (take (came_count result) input.new)) }
+    ensures came { Consumes (R.remaining reader.old) (R.remaining reader.new) (take (came_count result) input.new) }
     ensures all { IfOk result (λ count. count < length input.new → IsAtEnd (R.remaining reader.new)) }
 {
     let mut count = 0;
     while count < input.len() {
-        let more = reader.read(&mut input[count..])?;
-        if more == 0 {
-            return Ok(count);
+        match reader.read(&mut input[count..]) {
+            Ok(0) => return Ok(count),
+            Ok(more) => count += more,
+            Err(error) => return Err(Cut { count, error }),
         }
-        count += more;
     }
     Ok(count)
 }
@@ -48,7 +55,7 @@ fn print_totals<R: Read, W: Write>(reader: &mut R, writer: &mut W) -> Result<(),
     ensures unread { IfErr result (λ failure. IsOfInput failure → Keeps (W.contents writer.old) (W.contents writer.new)) }
 {
     let mut input = [0; INPUT_ROOM];
-    let count = read_input(reader, &mut input).map_err(Failure::Input)?;
+    let count = read_input(reader, &mut input).map_err(|cut| Failure::Input(cut.error))?;
     let mut out = [0u8; SHEET_ROOM];
     let end = totals(&input[..count], &mut out);
     writer.write_all(&out[..end]).map_err(Failure::Output)?;

@@ -1,8 +1,8 @@
 -- `inputs::input_of` meets its contract: the flag byte of the record at the position.
 use Prim.Native.Nat.{◌-◌}
 use mathlib.Core.Bool.{not}
-use mathlib.Core.Path.{◌≡◌, ap, ◌∙◌}
-use Rattle.engine.specs.Inputs.{flags_in, flag_of}
+use mathlib.Core.Path.{ap, ◌∙◌}
+use Rattle.engine.specs.Inputs.{flag_of}
 use Rattle.engine.proofs.ServeLaws.{flags_at}
 use Rattle.engine.proofs.inputs.input_of.Goals as goal
 

@@ -1,5 +1,5 @@
 -- `serve::inputs_at` meets its contract: the bits are the entry's byte of inputs, and each wire there is overrules its bit.
-use mathlib.Core.Path.{◌≡◌, ap, ◌∙◌, sym}
+use mathlib.Core.Path.{◌∙◌, sym}
 use Rattle.table.specs.Blocks.{blocks_of, block_at}
 use Rattle.engine.specs.Inputs.{flags_in, input_of, inputs_of}
 use Rattle.engine.proofs.ServeLaws.{bits_at, unwired}

@@ -1,7 +1,6 @@
 -- `totals::put_checked` meets its contract: the first check that fails, or the sheet by the counts, which is that of the journal.
 use mathlib.Core.Path.{◌≡◌, sym, ◌∙◌}
 use Rattle.std.specs.Prelude.{Ok}
-use Rattle.table.specs.Check.{check_of}
 use Rattle.table.specs.Blocks.{blocks_of}
 use Rattle.journal.specs.Check.{journal_verdict}
 use Rattle.sheet.proofs.TotalsLaws.{accepted_both, rows_fit, prints_sheet}

@@ -7,8 +7,8 @@ use Rattle.table.specs.Spare.{spare_ok, spare_at, spares_check}
 use Rattle.table.proofs.SpareLaws.{no_spares}
 use Rattle.table.proofs.spare.check_spares.Goals as goal
 
-pub returns-then-chain-n : goal.returns-then-chain-n
-returns-then-chain-n c = no_spares c.args.image.now (c.requires.holds.counted ∙ c.if-chain-n.true)
+pub returns-then-none_spare : goal.returns-then-none_spare
+returns-then-none_spare c = no_spares c.args.image.now (c.requires.counted ∙ c.if-none_spare.true)
 
 pub returns-then-not-spare_ok : goal.returns-then-not-spare_ok
 unfolding spares_check

@@ -1,5 +1,5 @@
 -- `Tally::add` meets its contract: one count more, or none.
-use Rattle.std.proofs.Common.{◌≡◌, ◌<◌, ◌∙◌, ℕ, [], sym, arith, rules, length, get_or}
+use Rattle.std.proofs.Common.{◌<◌, ◌∙◌, [], sym, arith, length, get_or}
 use Rattle.figures.proofs.TallyLaws.{written, not_written, position_bound, kind_bound}
 use Rattle.figures.proofs.tally.Tally.add.Goals as goal
 

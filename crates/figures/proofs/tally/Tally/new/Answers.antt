@@ -1,5 +1,4 @@
 -- `Tally::new` meets its contract: rows of zeros, and nothing past them.
-use Rattle.std.proofs.Common.{refl}
 use Rattle.figures.proofs.TallyLaws.{no_counts}
 use Rattle.figures.proofs.tally.Tally.new.Goals as goal
 

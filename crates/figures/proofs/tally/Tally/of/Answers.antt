@@ -1,5 +1,5 @@
 -- `Tally::of` meets its contract: one event more at a time.
-use Rattle.std.proofs.Common.{◌≡◌, ◌<◌, ◌+◌, ◌*◌, ◌/◌, ◌∙◌, ℕ, sym, ap, arith, rules, refl, length, length-append, length-drop}
+use Rattle.std.proofs.Common.{◌≡◌, ◌<◌, ◌/◌, ◌∙◌, ℕ, ap, arith, rules, length, length-append, length-drop}
 use Rattle.std.proofs.lemmas.List.{length_push}
 use Rattle.layout.specs.Buffer.{event_length}
 use Rattle.layout.specs.EventLayout.{decode_events}

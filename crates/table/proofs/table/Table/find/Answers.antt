@@ -27,10 +27,6 @@ answers : (image tag : List ℕ) (r : Result ℕ Refusal) (o : Option ℕ) (refu
     → o ≡ some_position (tag_position image tag 1 (chain_of image)) → refusal ≡ record { check = UnknownTag; place = Header } → r ≡ tag_checks image tag
 answers image tag r o refusal f e g h = simp (f, e, g, h, found-or)
 
-pub returns-clause-answer : goal.returns-clause-answer
-returns-clause-answer c =
-    answers c.args.self.now c.args.tag.now _ _ _ (sym c.tag_form.ensures ∙ c.if-not-tag_form.false) c.ok_or.ensures.value c.position.ensures c.header-2.ensures
-
 pub returns-clause-within : goal.returns-clause-within
 returns-clause-within c =
     within c.args.self.now c.args.tag.now _

@@ -2,7 +2,7 @@
 use Rattle.std.proofs.Common.{◌∙◌, ap, get_or, ◌&&◌}
 use Rattle.image.specs.Image.{wire_slot, wire_code, start_wire_offset, abort_wire_offset}
 use Rattle.table.specs.Chain.{chain_of}
-use Rattle.table.specs.Blocks.{Block, block_in, is_unwired}
+use Rattle.table.specs.Blocks.{block_in, is_unwired}
 use Rattle.table.proofs.HeldLaws.{at_index}
 use Rattle.table.proofs.WireLaws.{none_bytes}
 use Rattle.table.proofs.table.Table.is_unwired.Goals as goal

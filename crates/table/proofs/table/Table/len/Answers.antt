@@ -5,6 +5,3 @@ use Rattle.table.proofs.table.Table.len.Goals as goal
 
 pub returns-clause-count : goal.returns-clause-count
 returns-clause-count c = sym (table_length _ _ _ c.self.invariant c.self.view_is)
-
-pub returns-clause-accepted : goal.returns-clause-accepted
-returns-clause-accepted c = rw (← c.self.view_is) c.self.invariant.answer

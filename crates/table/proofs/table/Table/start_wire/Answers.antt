@@ -1,5 +1,5 @@
 -- `table::Table::start_wire` meets its contract: block i is the block in the chain's slot i.
-use Rattle.std.proofs.Common.{◌∙◌, ap}
+use Rattle.std.proofs.Common.{◌∙◌, ap, arith}
 use Rattle.table.specs.Blocks.{Block, block_in}
 use Rattle.table.proofs.HeldLaws.{at_index}
 use Rattle.table.proofs.table.Table.start_wire.Goals as goal
@@ -11,7 +11,9 @@ pub wire_at-requires-clause-has_slot : goal.wire_at-requires-clause-has_slot
 wire_at-requires-clause-has_slot c = (at_index _ _ _ c.args.i c.self.invariant c.self.view_is c.requires).has
 
 pub wire_at-requires-clause-source : goal.wire_at-requires-clause-source
-wire_at-requires-clause-source c = (at_index _ _ _ c.args.i c.self.invariant c.self.view_is c.requires).start
+wire_at-requires-clause-source c =
+    let h = at_index _ _ _ c.args.i c.self.invariant c.self.view_is c.requires in
+    omega (arith, h.start, h.abort)
 
 pub returns : goal.returns
 unfolding block_in
