@@ -1,6 +1,6 @@
 -- A call from a sound record, as it is computed, is a whole call by the rules: passes that go on again and a last one that stops, at most
 -- six, with at most two events; and a call has one outcome. For the laws of histories and, with the
--- rank that each pass lowers (`call_falls`), for CallPhases.
+-- rank that each pass lowers (`call_falls`), for PhaseLaws and CallPhases.
 use Prim.Native.Nat.{ℕ, zero, suc, ◌+◌, ◌≤◌}
 use native.Mathlib.Omega.{arith}
 use mathlib.Core.Bool.{Bool, true, false}
@@ -53,7 +53,7 @@ module _ (k : ℕ) (i : Inputs) (e : Entry) where
       (λ h. let g = (passed k i e s).lower h in goes_on r s h _ (within n (pass k i e r).next (passed k i e s).after (omega arith)))
       (λ h. ends r s h)
 
-falling_call : {k : ℕ} {i : Inputs} {e : Entry} {r : Record} {o : Outcome} → Falling k i e r o → Call k i e r o
+pub falling_call : {k : ℕ} {i : Inputs} {e : Entry} {r : Record} {o : Outcome} → Falling k i e r o → Call k i e r o
 falling_call (halts r h) = stops r h
 falling_call (falls r o h l c) = goes r o h (falling_call c)
 

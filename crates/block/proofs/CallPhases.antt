@@ -1,129 +1,38 @@
--- A call as the phases of the code make it: an account to which one pass after the other is added, in descending rank. For the proofs of `call` and its phases.
+-- A call as the phases of the code make it: an account to which one pass after the other is added, in descending rank. By the laws of one phase (PhaseLaws).
+-- For the proofs of `call` and its phases.
 use Prim.Native.Nat.{ℕ, suc, ◌+◌, ◌≤◌, ◌<◌}
 use native.Mathlib.Omega.{arith}
-use native.Mathlib.Nat.{add_assoc, zero-add}
-use mathlib.Core.Bool.{Bool, true, false, cond, not, ◌&&◌, ◌||◌}
-use mathlib.Core.List.{List, [], ◌∷◌, ◌++◌, append_assoc, append-nil}
-use Rattle.std.specs.Prelude.{Option, None, Some, Result, Ok, Err}
+use mathlib.Core.Bool.{Bool, true, false, cond, ◌||◌}
+use Rattle.std.specs.Prelude.{Result, Ok, Err}
 use mathlib.Core.Path.{◌≡◌, ◌∙◌, refl, ap, sym, subst}
 use lib.Dec.{eqb}
-use lib.ListN.{length, take, length-append, length-take}
 use borrow.Author.Tests.{eqb-true}
-use Rattle.kind.specs.Kind.{is_edge, has_time_limit, is_continuous}
-use Rattle.clock.specs.Clock.{past_time_out}
 use Rattle.block.specs.Sound.{sound}
 use Rattle.block.specs.Record.{Dormant, Executing, Done, Error, Aborting, Aborted, Resetting}
-use Rattle.block.specs.Event.{emitted}
-use Rattle.block.specs.Entry.{Entry, Complete, ErrorReply, most_pieces}
+use Rattle.block.specs.Entry.{Entry, most_pieces}
 use Rattle.block.specs.Dormant.{dormant}
-use Rattle.block.specs.Executing.{called_off, time_out_of, at_call, use_piece, ends_pieces, use_pieces, bounds_of, worked, judge, executing}
-use Rattle.block.specs.Ended.{reset_due, ended}
+use Rattle.block.specs.Executing.{executing}
+use Rattle.block.specs.Ended.{ended}
 use Rattle.block.specs.Aborting.{aborting}
 use Rattle.block.specs.Resetting.{resetting}
 use Rattle.block.specs.Rules.{rule, pass}
-use Rattle.block.specs.Call.{Outcome, last_pass, pass_then, call_of}
-use Rattle.block.specs.CallResult.{events_of, outcome_of, no_pass, first_after, second_after, with_pass, after_pass, left_by}
+use Rattle.block.specs.Call.{Outcome, call_of}
+use Rattle.block.specs.CallResult.{outcome_of, no_pass, with_pass, after_pass, left_by}
 use Rattle.block.specs.Ended.{is_end}
-use Rattle.block.proofs.Phases.{rank, Falling, halts, falls, joined, Phase}
+use Rattle.block.proofs.Phases.{rank, joined, Phase}
 use Rattle.block.specs.declared.record.Record.{Record}
 use Rattle.block.specs.declared.entry.Inputs.{Inputs}
-use Rattle.block.specs.declared.entry.Piece.{Piece}
-use Rattle.block.specs.declared.executing.Work.{Work}
-use Rattle.block.specs.declared.executing.Bounds.{Bounds}
-use Rattle.block.specs.declared.event.Event.{Event}
 use Rattle.block.specs.declared.pass.Pass.{Pass}
 use Rattle.block.specs.declared.call.CallResult.{CallResult}
 use Rattle.block.specs.declared.call.Stopped.{Stopped}
 use Rattle.block.specs.declared.entry.Given.{Given}
 use Rattle.block.specs.PackedEntry.{entry_of}
 use Rattle.membership.proofs.Logic.{by_test}
-use Rattle.std.proofs.lemmas.Bool.{cond_both}
-use Rattle.block.proofs.Tests.{none, never, or_cases}
-use Rattle.block.proofs.Shapes.{is_done, is_error, is_aborted, Settled, idle, runs, aborts, shows, resets, withdraws, settled_of}
-use Rattle.block.proofs.Passes.{cond_most, rank_cases, rank_least, rank_most}
-use Rattle.block.proofs.CallLaws.{call_falls, call_whole}
-
-pieces_used : (several : Bool) (b : Bounds) (w : Work) (ps : List Piece) → (use_pieces several b w ps).used ≤ w.used + length ps
-unfolding use_pieces
-pieces_used several b w [] = omega arith
-pieces_used several b w (p ∷ ps) =
-    cond_both (ends_pieces several b (use_piece w p) p) _ _ (λ (x : Work). x.used ≤ w.used + suc (length ps))
-    (λ h. omega arith)
-    (λ h. let i = pieces_used several b (use_piece w p) ps in omega arith)
-
--- a pass uses at most four pieces
-abbrev pub Few : Pass → Type 0
-Few p = p.used ≤ most_pieces
-
-module _ (k : ℕ) (i : Inputs) (e : Entry) (r : Record) where
-  judge_used : (worked k e r).used ≤ most_pieces → Few (judge (is_continuous k) (time_out_of k e r) (worked k e r) r)
-  unfolding judge
-  judge_used h =
-      cond_both (eqb (worked k e r).reply ErrorReply) _ _ Few (λ t. h)
-      (λ t. cond_both (past_time_out (time_out_of k e r) (worked k e r).timer) _ _ Few (λ t. h)
-      (λ t. cond_both (eqb (worked k e r).reply Complete && not (is_continuous k)) _ _ Few (λ t. h) (λ t. h)))
-
-  pub pass_used : e.count ≤ most_pieces → Few (pass k i e r)
-  unfolding rule dormant executing ended aborting resetting
-  pass_used h =
-      cond_both (eqb r.step Dormant) _ _ Few (λ t. cond_both i.start _ _ Few (λ t. omega arith) (λ t. omega arith))
-      (λ t. cond_both (eqb r.step Executing) _ _ Few
-      (λ t. cond_both (called_off k i) _ _ Few (λ t. omega arith) (λ t. judge_used work))
-      (λ t. cond_both (is_end r.step) _ _ Few
-      (λ t. cond_both (reset_due i r) _ _ Few (λ t. omega arith) (λ t. omega arith))
-      (λ t. cond_both (eqb r.step Aborting) _ _ Few
-      (λ t. cond_both (eqb e.abort_reply ErrorReply) _ _ Few (λ t. omega arith)
-      (λ t. cond_both (eqb e.abort_reply Complete) _ _ Few (λ t. cond_both (is_edge k) _ _ Few (λ t. omega arith) (λ t. omega arith)) (λ t. omega arith)))
-      (λ t. cond_both (eqb r.step Resetting) _ _ Few
-      (λ t. cond_both (eqb e.reset_reply Complete) _ _ Few (λ t. omega arith) (λ t. omega arith))
-      (λ t. omega arith)))))
-    where
-      work : (worked k e r).used ≤ most_pieces
-      work = omega (arith, pieces_used (has_time_limit k) (bounds_of k e r) (at_call e r) (take e.count e.pieces), length-take e.count e.pieces)
-
--- the event of a pass stands after those of the account
-pub events_after : (f s v : Option Event) → length (events_of f s) + length (emitted v) ≤ 2 → events_of (first_after f v) (second_after f s v) ≡ events_of f s ++ emitted v
-unfolding first_after second_after
-events_after None s None h = refl
-events_after (Some u) s None h = sym (append-nil (u ∷ emitted s))
-events_after None s (Some w) h = refl
-events_after (Some u) None (Some w) h = refl
-events_after (Some u) (Some x) (Some w) h = let z : ⊥ = omega arith in absurd z
-
-module _ (a : CallResult) (p : Pass) where
-  -- the event of a pass has room
-  abbrev pub Room : Type 0
-  Room = length (events_of a.first a.second) + length (emitted p.event) ≤ 2
-
-  -- a pass is added as the last
-  pub add_last : Room → outcome_of (with_pass a p) ≡ joined (outcome_of a) (last_pass p)
-  add_last h = λ j. record { next = p.next; events = events_after a.first a.second p.event h j; used = a.used + p.used; passes = a.passes + 1 }
-
-  -- and with the rest of the call after it
-  pub add_first : (o : Outcome) → Room → joined (outcome_of (with_pass a p)) o ≡ joined (outcome_of a) (pass_then p o)
-  add_first o h =
-      ap (λ (x : Outcome). joined x o) (add_last h)
-      ∙ λ j. record {
-        next = o.next;
-        events = append_assoc (events_of a.first a.second) (emitted p.event) o.events j;
-        used = add_assoc a.used p.used o.used j;
-        passes = shift a.passes o.passes j;
-      }
-    where
-      shift : (m n : ℕ) → m + 1 + n ≡ m + suc n
-      shift m n = omega arith
-
--- a sound record that is in no end step has a rank below that of the end steps
-rank_sound : {k : ℕ} {F : Type 0} {r : Record} → Settled k F r → is_end r.step ≡ false → rank r ≤ 5
-unfolding rank
-rank_sound idle h = omega arith
-rank_sound (runs x) h = omega arith
-rank_sound (aborts a x) h = omega arith
-rank_sound (shows is_done f x) h = never h
-rank_sound (shows is_error f x) h = never h
-rank_sound (shows is_aborted f x) h = never h
-rank_sound (resets z {q} f x) h = cond_most 5 q _ _ (omega arith) (omega arith)
-rank_sound (withdraws a x) h = omega arith
+use Rattle.block.proofs.Tests.{never, or_cases}
+use Rattle.block.proofs.Passes.{rank_cases}
+use Rattle.block.proofs.CallLaws.{falling_call, call_unique}
+use Rattle.block.proofs.PhaseLaws.{Phase as Alone, Finished, Onward, call_skips, call_ends, phase_skips, phase_fits, phase_stops, phase_goes, last_stops}
+use Rattle.block.proofs.PhaseLaws.{call_begins as first_phase}
 
 -- the step of the rank n, from 2 to 5
 abbrev pub step_of : ℕ → ℕ
@@ -185,61 +94,31 @@ module _ (g : Given) (r : Record) where
       (λ h. rule_at g.kind g.inputs (entry_of g.entry) r Error (eqb-true _ _ h)))
       (λ h. rule_at g.kind g.inputs (entry_of g.entry) r Aborted (eqb-true _ _ h))
 
-module _ (k : ℕ) (i : Inputs) (e : Entry) where
-  pub goes_on : {r : Record} {o : Outcome} → Falling k i e r o → (pass k i e r).again ≡ true
-      → (q : Outcome) × Falling k i e (pass k i e r).next q × (o ≡ pass_then (pass k i e r) q) × (rank (pass k i e r).next < rank r)
-  goes_on (halts r h) g = none (sym h ∙ g)
-  goes_on (falls r q h l c) g = (q, c, refl, l)
+module _ {k : ℕ} {i : Inputs} {e : Entry} {all : Outcome} {n : ℕ} {a : CallResult} where
+  -- a phase of a call that leaves `all`, by itself
+  by_itself : Phase k i e all n a → Alone k i e n a
+  by_itself l = record { rest = l.rest; left = l.left; below = l.below; pieces = l.pieces; passes = l.passes; events = l.events }
 
-  positive : {r : Record} {o : Outcome} → Falling k i e r o → 1 ≤ o.passes
-  positive (halts r h) = omega arith
-  positive (falls r o h l c) = omega arith
+  -- what the call leaves that came to it is `all`
+  leaves_all : Phase k i e all n a → (o : Outcome) → Finished k i e a o → o ≡ all
+  leaves_all l o f = f.whole ∙ ap (joined (outcome_of a)) (call_unique k i e a.next f.rest l.rest f.called (falling_call l.left)) ∙ l.whole
 
-  pub stops_at : {r : Record} {o : Outcome} → Falling k i e r o → (pass k i e r).again ≡ false → o ≡ last_pass (pass k i e r)
-  stops_at (halts r h) g = refl
-  stops_at (falls r q h l c) g = none (sym g ∙ h)
-
--- the phase of rank suc n begins with the account a, of a call that leaves `all`; its pass is made, and added
-module _ {k : ℕ} {i : Inputs} {e : Entry} {all : Outcome} (n : ℕ) {a : CallResult} (l : Phase k i e all (suc n) a) where
-  abbrev q : Pass
-  q = pass k i e a.next
-
-  phase_fits : e.count ≤ most_pieces → (a.used + q.used < 256) × (a.passes < 255)
-  phase_fits h =
-      let u = pass_used k i e a.next h in
-      let c = positive k i e l.left in
-      let m = l.passes in
-      let w = l.pieces in
-      (omega arith, omega arith)
-
-  phase_skips : rank a.next ≤ n → Phase k i e all n a
-  phase_skips h = record { rest = l.rest; left = l.left; below = h; pieces = l.pieces; passes = l.passes; events = l.events; whole = l.whole }
-
-  phase_stops : q.again ≡ false → outcome_of (with_pass a q) ≡ all
-  phase_stops stop =
-      let last = stops_at k i e l.left stop in
-      let events : length l.rest.events ≡ length (emitted q.event) = ap (λ (x : Outcome). length x.events) last in
-      add_last a q (omega (arith, l.events, events)) ∙ ap (joined (outcome_of a)) (sym last) ∙ l.whole
-
-  phase_goes : e.count ≤ most_pieces → q.again ≡ true → Phase k i e all n (with_pass a q)
-  phase_goes h again =
-      let next = goes_on k i e l.left again in
-      let o : Outcome = next.0 in
-      let events : l.rest.events ≡ emitted q.event ++ o.events = ap (λ (x : Outcome). x.events) next.2 in
-      let count : l.rest.passes ≡ suc o.passes = ap (λ (x : Outcome). x.passes) next.2 in
-      let both : length l.rest.events ≡ length (emitted q.event) + length o.events = ap length events ∙ length-append (emitted q.event) o.events in
-      let has : length (events_of a.first a.second) + length (emitted q.event) ≤ 2 = omega (arith, l.events) in
-      let grown : length (events_of (with_pass a q).first (with_pass a q).second) ≡ length (events_of a.first a.second) + length (emitted q.event) =
-      ap length (events_after a.first a.second q.event has) ∙ length-append (events_of a.first a.second) (emitted q.event) in
+  -- and a phase by itself of which that holds is one of the call
+  of_call : Alone k i e n a → ((o : Outcome) → Finished k i e a o → o ≡ all) → Phase k i e all n a
+  of_call l f =
       record {
-        rest = o;
-        left = next.1;
-        below = omega (arith, next.3, l.below);
-        pieces = omega (arith, l.pieces, pass_used k i e a.next h);
-        passes = omega (arith, l.passes, count);
-        events = omega (arith, grown, l.events, both);
-        whole = add_first a q o has ∙ ap (joined (outcome_of a)) (sym next.2) ∙ l.whole;
+        rest = l.rest;
+        left = l.left;
+        below = l.below;
+        pieces = l.pieces;
+        passes = l.passes;
+        events = l.events;
+        whole = f (joined (outcome_of a) l.rest) (record { rest = l.rest; called = falling_call l.left; whole = refl });
       }
+
+-- the phase that begins next is one of the same call
+begins_next : {k : ℕ} {i : Inputs} {e : Entry} {all : Outcome} {m n : ℕ} {a b : CallResult} → Phase k i e all m a → Onward k i e n a b → Phase k i e all n b
+begins_next l on = of_call on.begins (λ o f. leaves_all l o (on.finish o f))
 
 -- the phase of rank n, begun with the account a, of the call that is given g from the record r
 abbrev pub At : Given → Record → ℕ → CallResult → Type 0
@@ -267,56 +146,39 @@ module _ (g : Given) (r : Record) where
   module _ (s : sound g.kind r ≡ true) {b : CallResult} (is : b ≡ no_pass r) where
     pub call_begins : At g r 6 b
     call_begins =
-        let o = whole_by g r in
-        let w = call_whole g.kind g.inputs (entry_of g.entry) r s in
-        subst (At g r 6) (sym is)
-        (record {
-          rest = o;
-          left = call_falls g.kind g.inputs (entry_of g.entry) r s;
-          below = rank_most r;
-          pieces = omega arith;
-          passes = omega (arith, w.passes);
-          events = omega (arith, w.events);
-          whole = λ j. record { next = o.next; events = o.events; used = zero-add o.used j; passes = zero-add o.passes j };
-        })
+        of_call (first_phase g.kind g.inputs (entry_of g.entry) r s is)
+        (λ o f. (call_ends g.kind g.inputs (entry_of g.entry) r s is o f).1)
 
     pub first_other : is_end b.next.step ≡ false → rank b.next ≤ 5
-    first_other = subst (λ (x : CallResult). is_end x.next.step ≡ false → rank x.next ≤ 5) (sym is) (rank_sound (settled_of g.kind ⊥ r s))
+    first_other = call_skips g.kind g.inputs (entry_of g.entry) r s is
 
   -- the phase of rank suc n, due or not; M says which pass its rule makes
   module _ (n : ℕ) {a : CallResult} (on : At g r (suc n) a) (few : g.entry.count ≤ most_pieces) (due : Bool) (M : Pass → Type 0)
       (is : due ≡ true → (p : Pass) → M p → p ≡ pass_by g a.next) where
     pub phase_room : due ≡ true → (p : Pass) → M p → (a.used + p.used < 256) × (a.passes < 255)
-    phase_room t p m = rw (is t p m) (phase_fits n on few)
+    phase_room t p m = phase_fits n (by_itself on) (is t p m) few
 
     pub phase_left : (due ≡ false → rank a.next ≤ n) → {x : Result CallResult Stopped} → (due ≡ false → x ≡ Ok a) → (due ≡ true → (p : Pass) × M p × (x ≡ after_pass a p)) → Left g r n x
     phase_left other skipped made =
         by_test due
         (λ t. let p = made t in subst (Left g r n) (sym (p.2 ∙ ap (after_pass a) (is t p.0 p.1))) after)
-        (λ f. subst (Left g r n) (sym (skipped f)) (onward (phase_skips n on (other f))))
+        (λ f. subst (Left g r n) (sym (skipped f)) (onward (begins_next on (phase_skips n (by_itself on) (other f) refl))))
       where
         after : Left g r n (after_pass a (pass_by g a.next))
         after =
             by_test (pass_by g a.next).again
-            (λ y. rw y (onward (phase_goes n on few y)))
-            (λ y. rw y (ended_by (phase_stops n on y)))
+            (λ y. rw y (onward (begins_next on (phase_goes n (by_itself on) refl refl few y))))
+            (λ y. rw y (ended_by (leaves_all on _ (phase_stops n (by_itself on) refl refl y))))
 
   -- it is not due where its step is another
   pub step_other : (n : ℕ) {a : CallResult} → 1 ≤ n → n ≤ 4 → At g r (suc n) a → (a.next.step ≡ step_of (suc n) → ⊥) → rank a.next ≤ n
   step_other n {a} l m on f = rank_other n a.next l m f on.below
 
-  -- the pass of the last phase stops
-  last_stops : {a : CallResult} → At g r 1 a → (pass_by g a.next).again ≡ false
-  last_stops {a} l = by_test (pass_by g a.next).again (λ h. again (goes_on g.kind g.inputs (entry_of g.entry) l.left h).3) (λ h. h)
-    where
-      again : {A : Type 0} → rank (pass_by g a.next).next < rank a.next → A
-      again h = let z : ⊥ = omega (arith, l.below, rank_least (pass_by g a.next).next) in absurd z
-
   pub last_room : {a : CallResult} {p : Pass} → At g r 1 a → g.entry.count ≤ most_pieces → p ≡ pass_by g a.next → (a.used + p.used < 256) × (a.passes < 255)
-  last_room l few is = rw is (phase_fits 0 l few)
+  last_room l few is = phase_fits 0 (by_itself l) is few
 
   pub last_whole : {a b : CallResult} {p : Pass} → At g r 1 a → p ≡ pass_by g a.next → b ≡ with_pass a p → outcome_of b ≡ whole_by g r
-  last_whole {a} l is added = ap outcome_of (added ∙ ap (with_pass a) is) ∙ phase_stops 0 l (last_stops l)
+  last_whole l is added = leaves_all l _ (phase_stops 0 (by_itself l) is added (last_stops (by_itself l) is))
 
 -- what the last showing leaves: a withdrawn block, which is reset, or the call has ended
 pub data LastLeft (g : Given) (r : Record) : Result CallResult Stopped → Type 0 where
@@ -328,7 +190,7 @@ module _ (g : Given) (r : Record) where
       → {x : Result CallResult Stopped} → (due ≡ false → x ≡ Ok a) → (due ≡ true → (p : Pass) × M p × (x ≡ after_pass a p)) → LastLeft g r x
   last_left {a} on due M end is skipped made =
       by_test due
-      (λ t. let p = made t in subst (LastLeft g r) (sym (p.2 ∙ ap (after_pass a) (is t p.0 p.1))) (let y = last_stops g r on in rw y (ended_last (phase_stops 0 on y))))
+      (λ t. let p = made t in subst (LastLeft g r) (sym (p.2 ∙ ap (after_pass a) (is t p.0 p.1))) (let y = last_stops (by_itself on) refl in rw y (ended_last (last_whole g r on refl refl))))
       (λ f. subst (LastLeft g r) (sym (skipped f)) (unshown (sym end ∙ f) on))
 
 pub reset_at : {g : Given} {r : Record} {x : Result CallResult Stopped} {a : CallResult} → LastLeft g r x → x ≡ Ok a → (a.next.step ≡ Resetting) × At g r 1 a

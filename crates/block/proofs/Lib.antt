@@ -8,8 +8,9 @@ pub mod TurnLaws
 pub mod CountLaws
 pub mod Passes
 pub mod CallLaws
-pub mod CallPhases
+pub mod Accounts
 pub mod PhaseLaws
+pub mod CallPhases
 pub mod SoundLaws
 pub mod EventLaws
 pub mod TimeLaws

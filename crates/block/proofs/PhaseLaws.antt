@@ -1,22 +1,30 @@
--- A call taken apart by its phases, each law by itself: from an account when a phase begins, to what the whole leaves.
+-- A call taken apart by its phases: how it begins, what each phase does to the account with which it begins, and what the whole leaves. Each law speaks of
+-- one phase by itself, for any inputs and frame entry. CallPhases proves `phases` by them.
 use Prim.Native.Nat.{ℕ, suc, ◌+◌, ◌*◌, ◌≤◌, ◌<◌}
 use native.Mathlib.Omega.{arith}
+use native.Mathlib.Nat.{zero-add}
 use mathlib.Core.Bool.{true, false}
 use mathlib.Core.List.{◌++◌}
 use mathlib.Core.Path.{◌≡◌, ◌∙◌, ap, sym, subst}
 use lib.ListN.{length, length-append}
+use Rattle.block.specs.Sound.{sound}
 use Rattle.block.specs.Event.{emitted}
 use Rattle.block.specs.Entry.{Entry, most_pieces}
+use Rattle.block.specs.Ended.{is_end}
 use Rattle.block.specs.Rules.{pass}
-use Rattle.block.specs.Call.{Outcome, Call, stops, goes, last_pass, pass_then}
-use Rattle.block.specs.CallResult.{events_of, outcome_of, with_pass}
+use Rattle.block.specs.Call.{Outcome, Call, stops, goes, last_pass, pass_then, call_of}
+use Rattle.block.specs.CallResult.{events_of, outcome_of, no_pass, with_pass}
 use Rattle.block.proofs.Phases.{rank, Falling, joined}
+use Rattle.block.specs.declared.record.Record.{Record}
 use Rattle.block.specs.declared.entry.Inputs.{Inputs}
 use Rattle.block.specs.declared.pass.Pass.{Pass}
 use Rattle.block.specs.declared.call.CallResult.{CallResult}
 use Rattle.membership.proofs.Logic.{by_test}
-use Rattle.block.proofs.Passes.{rank_least}
-use Rattle.block.proofs.CallPhases.{pass_used, events_after, add_last, add_first, goes_on, stops_at}
+use Rattle.block.proofs.Tests.{never}
+use Rattle.block.proofs.Shapes.{is_done, is_error, is_aborted, Settled, idle, runs, aborts, shows, resets, withdraws, settled_of}
+use Rattle.block.proofs.Passes.{cond_most, rank_least, rank_most}
+use Rattle.block.proofs.CallLaws.{call_falls, call_whole, call_unique}
+use Rattle.block.proofs.Accounts.{pass_used, events_after, add_last, add_first, goes_on, positive, stops_at}
 
 -- when the phase of rank n begins, with the account a: a call is left, of that rank at most, and the account has room for it
 pub record Phase (k : ℕ) (i : Inputs) (e : Entry) (n : ℕ) (a : CallResult) : Type 0 where
@@ -38,6 +46,36 @@ pub record Onward (k : ℕ) (i : Inputs) (e : Entry) (n : ℕ) (from : CallResul
   pub begins : Phase k i e n a
   pub finish : (o : Outcome) → Finished k i e a o → Finished k i e from o
 
+-- a sound record that is in no end step has a rank below that of the end steps
+rank_sound : {k : ℕ} {F : Type 0} {r : Record} → Settled k F r → is_end r.step ≡ false → rank r ≤ 5
+unfolding rank
+rank_sound idle h = omega arith
+rank_sound (runs x) h = omega arith
+rank_sound (aborts a x) h = omega arith
+rank_sound (shows is_done f x) h = never h
+rank_sound (shows is_error f x) h = never h
+rank_sound (shows is_aborted f x) h = never h
+rank_sound (resets z {q} f x) h = cond_most 5 q _ _ (omega arith) (omega arith)
+rank_sound (withdraws a x) h = omega arith
+
+-- a call from a sound record begins, and what it leaves when it has finished
+module _ (k : ℕ) (i : Inputs) (e : Entry) (r : Record) (s : sound k r ≡ true) {b : CallResult} (is : b ≡ no_pass r) where
+  pub call_begins : Phase k i e 6 b
+  call_begins =
+      let w = call_whole k i e r s in
+      subst (Phase k i e 6) (sym is)
+      (record { rest = call_of k i e r; left = call_falls k i e r s; below = rank_most r; pieces = omega arith; passes = omega (arith, w.passes); events = omega (arith, w.events) })
+
+  pub call_skips : is_end b.next.step ≡ false → rank b.next ≤ 5
+  call_skips = subst (λ (x : CallResult). is_end x.next.step ≡ false → rank x.next ≤ 5) (sym is) (rank_sound (settled_of k ⊥ r s))
+
+  pub call_ends : (o : Outcome) → Finished k i e b o → Call k i e r o × (o ≡ call_of k i e r)
+  call_ends o f =
+      let g : Finished k i e (no_pass r) o = subst (λ (x : CallResult). Finished k i e x o) is f in
+      let same : o ≡ g.rest = g.whole ∙ λ j. record { next = g.rest.next; events = g.rest.events; used = zero-add g.rest.used j; passes = zero-add g.rest.passes j } in
+      let c : Call k i e r o = subst (Call k i e r) (sym same) g.called in
+      (c, call_unique k i e r o (call_of k i e r) c (call_whole k i e r s).called)
+
 -- the phase of rank suc n begins with the account a
 module _ {k : ℕ} {i : Inputs} {e : Entry} (n : ℕ) {a : CallResult} (l : Phase k i e (suc n) a) where
   -- no pass in this phase
@@ -48,6 +86,15 @@ module _ {k : ℕ} {i : Inputs} {e : Entry} (n : ℕ) {a : CallResult} (l : Phas
 
   -- the pass p is made, and added to the account
   module _ {p : Pass} (is : p ≡ pass k i e a.next) where
+    pub phase_fits : e.count ≤ most_pieces → (a.used + p.used < 256) × (a.passes < 255)
+    phase_fits h =
+        let u = pass_used k i e a.next h in
+        let v = ap (λ (x : Pass). x.used) is in
+        let c = positive k i e l.left in
+        let m = l.passes in
+        let w = l.pieces in
+        (omega arith, omega arith)
+
     module _ {b : CallResult} (added : b ≡ with_pass a p) where
       here : b ≡ with_pass a (pass k i e a.next)
       here = added ∙ ap (with_pass a) is
