@@ -27,7 +27,7 @@ front_printed : (front rest : List ℕ) → most_input < length front → totals
 front_printed front rest long = sym (prints_75 front long) ∙ prints_75 (front ++ rest) (simp length-append (omega arith))
 
 -- all that came is printed, where the reader ended before the buffer was full or the buffer is longer than any input
-came_printed : (a b u v : Option (List ℕ)) (came : List ℕ) → Consumes a b came → IsAtEnd b ⊎ (most_input < length came) → Appends u v (totals_of came)
+pub came_printed : (a b u v : Option (List ℕ)) (came : List ℕ) → Consumes a b came → IsAtEnd b ⊎ (most_input < length came) → Appends u v (totals_of came)
     → IfSome a (λ input. Appends u v (totals_of input))
 came_printed None b u v came read end wrote = tt
 came_printed (Some input) None u v came read end wrote = absurd read
@@ -35,7 +35,7 @@ came_printed (Some input) (Some rest) u v came read (inl end) wrote = subst (λ 
 came_printed (Some input) (Some rest) u v came read (inr long) wrote = subst (Appends u v) (front_printed came rest long ∙ ap totals_of (sym read)) wrote
 
 -- where the reader did not end, the buffer is full
-ended_or_full : {P : Type 0} (count : ℕ) (buffer : List ℕ) → count ≤ length buffer → most_input < length buffer → (count < length buffer → P)
+pub ended_or_full : {P : Type 0} (count : ℕ) (buffer : List ℕ) → count ≤ length buffer → most_input < length buffer → (count < length buffer → P)
     → P ⊎ (most_input < length (take count buffer))
 ended_or_full {P = P} count buffer within room ends = by_room (cases_lt count (length buffer))
   where

@@ -55,10 +55,12 @@ fn print_totals<R: Read, W: Write>(reader: &mut R, writer: &mut W) -> Result<(),
     ensures unread { IfErr result (λ failure. IsOfInput failure → Keeps (W.contents writer.old) (W.contents writer.new)) }
 {
     let mut input = [0; INPUT_ROOM];
-    let count = read_input(reader, &mut input).map_err(|cut| Failure::Input(cut.error))?;
+    let came = read_input(reader, &mut input);
+    let count = came.map_err(|cut| Failure::Input(cut.error))?;
     let mut out = [0u8; SHEET_ROOM];
     let end = totals(&input[..count], &mut out);
-    writer.write_all(&out[..end]).map_err(Failure::Output)?;
+    let wrote = writer.write_all(&out[..end]);
+    wrote.map_err(Failure::Output)?;
     Ok(())
 }
 
