@@ -116,3 +116,35 @@ pub fn put_at<W: Word>(out: &mut [u8], at: usize, word: W)
 {
     word.write(&mut out[at..at + W::width()]);
 }
+
+/// The two bytes of a number, the lowest first.
+#[tactic(auto, unfolding(crate::specs::Word::bytes))]
+pub fn u16_bytes(x: u16) -> [u8; 2]
+    ensures { result ≡ bytes 2 x }
+{
+    u16::to_le_bytes(x)
+}
+
+/// The four bytes of a number, the lowest first.
+#[tactic(auto, unfolding(crate::specs::Word::bytes))]
+pub fn u32_bytes(x: u32) -> [u8; 4]
+    ensures { result ≡ bytes 4 x }
+{
+    u32::to_le_bytes(x)
+}
+
+/// The eight bytes of a number, the lowest first.
+#[tactic(auto, unfolding(crate::specs::Word::bytes))]
+pub fn u64_bytes(x: u64) -> [u8; 8]
+    ensures { result ≡ bytes 8 x }
+{
+    u64::to_le_bytes(x)
+}
+
+/// Copies bytes to the front of a buffer; the rest of it stays.
+pub fn copy(from: &[u8], out: &mut [u8])
+    requires { length from.now ≤ length out.old }
+    ensures { out.new ≡ from.now ++ drop (length from.now) out.old }
+{
+    out[..from.len()].copy_from_slice(from);
+}
