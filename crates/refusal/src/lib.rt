@@ -16,6 +16,20 @@ pub enum Place {
     Event(usize),
 }
 
+impl Place {
+    /// The number of the slot, position or event; 0 where none is named.
+    pub fn number(self) -> usize
+        ensures { result ≡ place_number self }
+    {
+        match self {
+            Place::Header => 0,
+            Place::Slot(slot) => slot as usize,
+            Place::Position(position) => position as usize,
+            Place::Event(number) => number,
+        }
+    }
+}
+
 /// The checks by their numbers (docs/RULES.md, Checks): `check as u8` is the number.
 #[derive(Clone, Copy, Debug, PartialEq, Eq)]
 pub enum Check {
@@ -101,12 +115,7 @@ impl Refusal {
     pub fn place(self) -> usize
         ensures { result ≡ place_number self.place }
     {
-        match self.place {
-            Place::Header => 0,
-            Place::Slot(slot) => slot as usize,
-            Place::Position(position) => position as usize,
-            Place::Event(number) => number,
-        }
+        self.place.number()
     }
 }
 
