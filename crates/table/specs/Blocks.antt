@@ -19,6 +19,15 @@ abbrev pub wire_of : List ℕ → ℕ → ℕ → Option Wire
 wire_of chain slot code =
     cond (eqb slot 0) from_frame (Some (record { position = position_of slot chain; flag = flag_named code; inverted = leb 128 code }))
 
+-- the reading of a wire that numbers name, not the bytes of a slot: position 0 is the frame's bit,
+-- a flag is "0 busy, 1 done, 2 error, 3 aborted", and any higher number aborted too
+abbrev pub flag_of_number : ℕ → Flag
+flag_of_number number = cond (eqb number 0) Busy (cond (eqb number 1) Done (cond (eqb number 2) Error Aborted))
+
+abbrev pub wire_of_numbers : ℕ → ℕ → Bool → Option Wire
+wire_of_numbers position flag inverted =
+    cond (eqb position 0) from_frame (Some (record { position = position; flag = flag_of_number flag; inverted = inverted }))
+
 -- one block
 pub record Block : Type 0 where
   pub kind : ℕ

@@ -3,7 +3,7 @@ ghost use Rattle.std.specs.Prelude.{◌≡◌, ◌+◌, ◌<◌, ◌≤◌, ◌&
 ghost use Rattle.image.specs.Image.{most_slots, slot_length, wire_slot, wire_code, start_wire_offset, abort_wire_offset, HasSlot};
 ghost use Rattle.table.specs.Chain.{chain_of, Holds};
 ghost use Rattle.table.specs.Record.{no_wire};
-ghost use Rattle.table.specs.Blocks.{flag_named, wire_of};
+ghost use Rattle.table.specs.Blocks.{flag_named, wire_of, wire_of_numbers};
 
 use crate::chain::Chain;
 use image::{START_WIRE_OFFSET, slot_byte, slot_start};
@@ -39,6 +39,22 @@ pub struct Wire {
     pub position: u8,
     pub flag: Flag,
     pub inverted: bool,
+}
+
+impl Wire {
+    /// The wire that numbers name: the flag is 0 busy, 1 done, 2 error, any other aborted. None at position 0: the input is the frame's bit.
+    pub fn of_numbers(position: u8, flag: u8, inverted: bool) -> Option<Wire>
+        ensures { result ≡ wire_of_numbers position flag inverted }
+    {
+        if position == 0 {
+            return None;
+        }
+        Some(Wire {
+            position,
+            flag: Flag::of(flag.min(3)),
+            inverted,
+        })
+    }
 }
 
 /// Whether a slot has no wire: its four bytes of wires as one number.
