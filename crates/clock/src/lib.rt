@@ -4,7 +4,7 @@
 ghost use Rattle.std.specs.Prelude.{◌≡◌, ◌+◌, min};
 ghost use Rattle.clock.specs.Clock.{most_elapsed, since, out_of_step, counted, start, tick, past, past_limit, past_time_out};
 
-/// The last reading, and the time counted up to it, in microseconds: at most `Timer::MOST`.
+/// The last reading, and the time counted up to it, in microseconds: `start` and `tick` keep it at most `Timer::MOST`.
 #[derive(Clone, Copy, Debug, PartialEq, Eq)]
 pub struct Timer {
     pub last: u32,

@@ -1,5 +1,5 @@
 -- Laws of a wire that is there, and of one that is not: two bytes of a slot as one number, and slot 0 on no chain. For the proofs of record::kind_ok,
--- no_wire, wire_ok and abort_ok, and of blocks::no_wires and config_at.
+-- no_wire, wire_ok and abort_ok, and of blocks::no_wires and Table::is_unwired.
 use Prim.Native.Nat.{ℕ, ◌+◌, ◌%◌, ◌<◌}
 use mathlib.Core.Path.{◌≡◌, sym, ◌∙◌}
 use mathlib.Core.List.{List}
