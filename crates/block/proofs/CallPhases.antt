@@ -44,11 +44,11 @@ rank_step r n l m =
     (λ _ e. let z : ⊥ = omega arith in absurd z) (λ _ e. let z : ⊥ = omega arith in absurd z) (λ e. let z : ⊥ = omega arith in absurd z)
 
 -- and a record of that rank at most, in another step, has a lower one
-rank_other : (n : ℕ) (r : Record) → 1 ≤ n → n ≤ 4 → (r.step ≡ step_of (suc n) → ⊥) → rank r ≤ suc n → rank r ≤ n
+pub rank_other : (n : ℕ) (r : Record) → 1 ≤ n → n ≤ 4 → (r.step ≡ step_of (suc n) → ⊥) → rank r ≤ suc n → rank r ≤ n
 rank_other n r l m f h = let d : rank r ≡ suc n → ⊥ = λ e. f (rank_step r (suc n) (omega arith) (omega arith) e) in omega arith
 
 -- the step of the last pass: what is not shown is reset
-rank_last : (r : Record) → is_end r.step ≡ false → rank r ≤ 1 → r.step ≡ Resetting
+pub rank_last : (r : Record) → is_end r.step ≡ false → rank r ≤ 1 → r.step ≡ Resetting
 rank_last r f =
     rank_cases (λ (n : ℕ). n ≤ 1 → r.step ≡ Resetting) r (λ _ l. high l (omega arith)) (λ _ l. high l (omega arith)) (λ _ l. high l (omega arith)) (λ h _. h) (λ h _. h)
     (λ h. never (sym h ∙ f)) (λ l. high l (omega arith))
