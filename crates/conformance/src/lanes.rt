@@ -2,6 +2,7 @@
 use crate::frame::{complete, with_job, working};
 use crate::line;
 use crate::names::EventText;
+use crate::pieces::Pieces;
 use block::entry::Entry;
 use image::{HEADER_LENGTH, SLOT_LENGTH};
 use layout::entry::ENTRY_BYTES;
@@ -9,7 +10,7 @@ use layout::event::{EVENT_BYTES, decode_event};
 use layout::record::RECORD_BYTES;
 use layout::report::REPORT_BYTES;
 use refusal::Answer;
-use std::io;
+use std::fmt::Write;
 
 // Appointment numbers that agree in their low four bytes.
 const FIRST_TRUCK: u64 = 1001;
@@ -37,20 +38,26 @@ fn position_of(tag: &str) -> Answer {
     table::lookup::find(&image(), tag.as_bytes())
 }
 
-fn print_found(rt: &impl Print, tag: &str) -> io::Result<()> {
-    match position_of(tag) {
-        Ok(position) => println!(rt; "{tag:<10} position {position}"),
-        Err(refusal) => println!(rt; "{tag:<10} {refusal}"),
-    }
+fn print_found(rt: &impl Print, tag: &str) {
+    let mut out = Pieces(rt);
+    let _ = write!(out, "{tag:<10} ");
+    let _ = match position_of(tag) {
+        Ok(position) => writeln!(out, "position {position}"),
+        Err(refusal) => writeln!(out, "{refusal}"),
+    };
 }
 
 // The report entry of a tag, by its position.
-fn print_lane(rt: &impl Print, tag: &str, report: &[u8; 2 * REPORT_BYTES]) -> io::Result<()> {
+fn print_lane(rt: &impl Print, tag: &str, report: &[u8; 2 * REPORT_BYTES]) {
     let (entries, _) = report.as_chunks::<REPORT_BYTES>();
     match position_of(tag) {
         Ok(1) => line::print_report(rt, tag, &entries[0]),
         Ok(2) => line::print_report(rt, tag, &entries[1]),
-        _ => println!(rt; "{tag:<10} "),
+        _ => {
+            let mut out = Pieces(rt);
+            let _ = write!(out, "{tag:<10} ");
+            let _ = writeln!(out);
+        }
     }
 }
 
@@ -67,16 +74,19 @@ fn tag_at(position: usize) -> &'static str {
 
 // The first events of the journal, each with the tag of its block.
 // Beside `Events` of `line`: before each event stands the tag of its block.
-fn print_journal(rt: &impl Print, journal: &[u8], count: usize) -> io::Result<()> {
-    print!(rt; "{:<10} ", "journal")?;
+fn print_journal(rt: &impl Print, journal: &[u8], count: usize) {
+    let mut out = Pieces(rt);
+    let _ = write!(out, "{:<10} ", "journal");
     for (i, bytes) in journal.chunks_exact(EVENT_BYTES).take(count).enumerate() {
         let separator = if i == 0 { "" } else { ", " };
         let posted = decode_event(bytes);
         let tag = tag_at(usize::from(posted.position));
         let event = EventText(posted.event);
-        print!(rt; "{separator}{tag} {event}")?;
+        let _ = write!(out, "{separator}");
+        let _ = print!(rt; "{tag} ");
+        let _ = write!(out, "{event}");
     }
-    println!(rt;)
+    let _ = writeln!(out);
 }
 
 fn frame_of(first: Entry, second: Entry) -> [u8; 2 * ENTRY_BYTES] {
@@ -93,55 +103,58 @@ fn scan(
     state: &mut [u8; 2 * RECORD_BYTES],
     first: Entry,
     second: Entry,
-) -> io::Result<()> {
+) {
     let frame = frame_of(first, second);
     let mut report = [0; 2 * REPORT_BYTES];
     let mut journal = [0; 4 * EVENT_BYTES];
     match engine::scan::scan(&image(), state, &frame, &mut report, &mut journal) {
         Ok(count) => {
-            line::heading(rt, name, "truck")?;
-            print_lane(rt, FIRST_TAG, &report)?;
-            print_lane(rt, SECOND_TAG, &report)?;
-            print_journal(rt, &journal, count)
+            line::heading(rt, name, "truck");
+            print_lane(rt, FIRST_TAG, &report);
+            print_lane(rt, SECOND_TAG, &report);
+            print_journal(rt, &journal, count);
         }
-        Err(refusal) => println!(rt; "{name:<10} {refusal}"),
+        Err(refusal) => {
+            let _ = writeln!(Pieces(rt), "{name:<10} {refusal}");
+        }
     }
 }
 
 // Beside that of `single`: two blocks, lengths in the types, and lines of its own.
-fn fresh_state(rt: &impl Print) -> io::Result<[u8; 2 * RECORD_BYTES]> {
+fn fresh_state(rt: &impl Print) -> [u8; 2 * RECORD_BYTES] {
     let mut state = [255; 2 * RECORD_BYTES];
-    match engine::fresh::fresh(&image(), &mut state) {
-        Ok(count) => println!(rt; "{:<10} {count} blocks", "fresh")?,
-        Err(refusal) => println!(rt; "{:<10} {refusal}", "fresh")?,
-    }
-    Ok(state)
+    let mut out = Pieces(rt);
+    let _ = match engine::fresh::fresh(&image(), &mut state) {
+        Ok(count) => writeln!(out, "{:<10} {count} blocks", "fresh"),
+        Err(refusal) => writeln!(out, "{:<10} {refusal}", "fresh"),
+    };
+    state
 }
 
 /// After the first scan the frame names the next trucks, for which neither block is free yet.
-pub fn run(rt: &impl Print) -> io::Result<()> {
-    print_found(rt, FIRST_TAG)?;
-    print_found(rt, SECOND_TAG)?;
-    let mut state = fresh_state(rt)?;
+pub fn run(rt: &impl Print) {
+    print_found(rt, FIRST_TAG);
+    print_found(rt, SECOND_TAG);
+    let mut state = fresh_state(rt);
     scan(
         rt,
         "scan 1",
         &mut state,
         with_job(FIRST_TRUCK, working(0)),
         with_job(SECOND_TRUCK, working(0)),
-    )?;
+    );
     scan(
         rt,
         "scan 2",
         &mut state,
         with_job(THIRD_TRUCK, working(0)),
         with_job(FOURTH_TRUCK, complete(0)),
-    )?;
+    );
     scan(
         rt,
         "scan 3",
         &mut state,
         with_job(THIRD_TRUCK, complete(0)),
         with_job(FOURTH_TRUCK, working(0)),
-    )
+    );
 }

@@ -2,6 +2,7 @@
 
 // Runs fresh, scan and find on bytes and prints what they show: the worked examples of document 01 (its "Lane card"), two
 // lanes with look-alike tags, and a refused scan between two accepted ones.
+mod pieces; // text on standard output, in pieces
 mod names; // steps, flags and events in words
 mod frame; // frame entries
 mod line; // the line of a call
@@ -10,17 +11,14 @@ mod examples;
 mod lanes;
 mod refused;
 
-use std::io;
-
-fn run(rt: &impl Print) -> io::Result<()> {
-    examples::run(rt)?;
-    println!(rt;)?;
-    lanes::run(rt)?;
-    println!(rt;)?;
-    refused::run(rt)
+fn run(rt: &impl Print) {
+    examples::run(rt);
+    let _ = println!(rt;);
+    lanes::run(rt);
+    let _ = println!(rt;);
+    refused::run(rt);
 }
 
 fn main(rt: HostRuntime) {
-    // A failed write ends the printing, and the exit status stays 0.
-    let _ = run(&rt);
+    run(&rt);
 }

@@ -45,14 +45,15 @@ impl fmt::Display for FlagName {
     }
 }
 
+// With the space after it: one piece.
 fn event_kind(kind: u8) -> &'static str {
     match kind {
-        Event::START => "start",
-        Event::DONE => "done",
-        Event::FAILED => "failed",
-        Event::ABORTED => "aborted",
-        Event::WITHDRAWN => "withdrawn",
-        _ => "?",
+        Event::START => "start ",
+        Event::DONE => "done ",
+        Event::FAILED => "failed ",
+        Event::ABORTED => "aborted ",
+        Event::WITHDRAWN => "withdrawn ",
+        _ => "? ",
     }
 }
 
@@ -65,8 +66,8 @@ impl fmt::Display for EventText {
         let Event { kind, code, job } = self.0;
         let kind = event_kind(kind);
         if code == 0 {
-            return write!(f, "{kind} {job}");
+            return write!(f, "{kind}{job}");
         }
-        write!(f, "{kind} {job} with code {code}")
+        write!(f, "{kind}{job} with code {code}")
     }
 }

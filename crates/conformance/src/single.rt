@@ -1,12 +1,13 @@
 // One block without wires: its table, its fresh state, and a scan with its line.
 use crate::line;
+use crate::pieces::Pieces;
 use block::entry::Entry;
 use image::{HEADER_LENGTH, KIND_OFFSET, SLOT_LENGTH};
 use kind::Kind;
 use layout::event::EVENT_BYTES;
 use layout::record::RECORD_BYTES;
 use layout::report::REPORT_BYTES;
-use std::io;
+use std::fmt::Write;
 
 /// Bytes of an image of one slot.
 // As in the other program: each stands on its own.
@@ -36,12 +37,12 @@ pub fn image_of(kind: Kind) -> [u8; ONE_SLOT] {
 }
 
 /// A state that fresh made of bytes that are not zero.
-pub fn fresh_state(rt: &impl Print, image: &[u8; ONE_SLOT]) -> io::Result<[u8; RECORD_BYTES]> {
+pub fn fresh_state(rt: &impl Print, image: &[u8; ONE_SLOT]) -> [u8; RECORD_BYTES] {
     let mut state = [255; RECORD_BYTES];
     if let Err(refusal) = engine::fresh::fresh(image, &mut state) {
-        println!(rt; "{refusal}")?;
+        let _ = writeln!(Pieces(rt), "{refusal}");
     }
-    Ok(state)
+    state
 }
 
 /// One scan, and its line.
@@ -51,12 +52,14 @@ pub fn scan(
     image: &[u8; ONE_SLOT],
     state: &mut [u8; RECORD_BYTES],
     entry: Entry,
-) -> io::Result<()> {
+) {
     let frame = layout::entry::encode_entry(entry);
     let mut report = [0; REPORT_BYTES];
     let mut journal = [0; 2 * EVENT_BYTES];
     match engine::scan::scan(image, state, &frame, &mut report, &mut journal) {
         Ok(count) => line::print_call(rt, name, &report, &journal, count),
-        Err(refusal) => println!(rt; "{name:<10} {refusal}"),
+        Err(refusal) => {
+            let _ = writeln!(Pieces(rt), "{name:<10} {refusal}");
+        }
     }
 }

@@ -7,7 +7,8 @@ ghost use Rattle.image.specs.Image.{image_length};
 
 use image::{HEADER_LENGTH, SLOT_COUNT_OFFSET, SLOT_LENGTH, START_WIRE_OFFSET, VERSION_OFFSET};
 use refusal::Answer;
-use std::{fmt, io};
+use std::fmt;
+use std::fmt::{InlineText, Write};
 
 // Bytes of an image of one slot.
 // As in the other program: each stands on its own.
@@ -32,137 +33,155 @@ fn three_lanes() -> [u8; THREE_SLOTS] {
     *b"\x01\x03\x03\0\x01\x02\0\0\0\0\0\0IN1     \x01\0\0\0\0\0\0\0IN_2    \x01\x01\0\0\0\0\0\0IN_1    "
 }
 
-// Bytes in hexadecimal, each after a space.
+// Standard output, written in pieces: each text and each value of a format.
+// A piece is a write of its own that is tried for itself, so what a failed write leaves out is that piece alone.
+// As in the other program: each stands on its own.
+#[derive(Drop)]
+struct Pieces<'a, P>(&'a P);
+
+impl<P: Print> Write for Pieces<'_, P> {
+    fn write_str(&mut self, text: &str) -> fmt::Result {
+        let _ = self.0.write_all(text.as_bytes());
+        Ok(())
+    }
+}
+
+// Bytes in hexadecimal, each after a space and with it one piece.
 #[derive(Clone, Copy)]
 struct Hex<'a>(&'a [u8]);
 
 impl fmt::Display for Hex<'_> {
     fn fmt<W: fmt::Write>(&self, f: &mut fmt::Formatter<W>) -> fmt::Result {
         for byte in self.0 {
-            write!(f, " {byte:02x}")?;
+            let text = InlineText::<3>::of(format_args!(" {byte:02x}"));
+            f.write_str(text.as_str())?;
         }
         Ok(())
     }
 }
 
-fn print_blocks(rt: &impl Print, call: &str, name: &str, answer: Answer) -> io::Result<()> {
-    match answer {
-        Ok(blocks) => println!(rt; "{call} {name}: {blocks} blocks"),
-        Err(refusal) => println!(rt; "{call} {name}: {refusal}"),
-    }
+fn print_blocks(rt: &impl Print, call: &str, name: &str, answer: Answer) {
+    let mut out = Pieces(rt);
+    let _ = write!(out, "{call}{name}: ");
+    let _ = match answer {
+        Ok(blocks) => write!(out, "{blocks} blocks"),
+        Err(refusal) => write!(out, "{refusal}"),
+    };
+    let _ = writeln!(out);
 }
 
-fn print_check(rt: &impl Print, name: &str, image: &[u8]) -> io::Result<()> {
-    print_blocks(rt, "check", name, table::check::check(image))
+fn print_check(rt: &impl Print, name: &str, image: &[u8]) {
+    print_blocks(rt, "check ", name, table::check::check(image));
 }
 
-fn print_find(rt: &impl Print, image: &[u8], tag: &str) -> io::Result<()> {
-    match table::lookup::find(image, tag.as_bytes()) {
-        Ok(position) => println!(rt; "find '{tag}': position {position}"),
-        Err(refusal) => println!(rt; "find '{tag}': {refusal}"),
-    }
+fn print_find(rt: &impl Print, image: &[u8], tag: &str) {
+    let mut out = Pieces(rt);
+    let _ = write!(out, "find '{tag}': ");
+    let _ = match table::lookup::find(image, tag.as_bytes()) {
+        Ok(position) => writeln!(out, "position {position}"),
+        Err(refusal) => writeln!(out, "{refusal}"),
+    };
 }
 
-fn print_show(rt: &impl Print, image: &[u8], tag: &str) -> io::Result<()> {
+fn print_show(rt: &impl Print, image: &[u8], tag: &str) {
     let slot = Hex(table::lookup::show(image, tag.as_bytes()));
-    println!(rt; "show '{tag}':{slot}")
+    let _ = writeln!(Pieces(rt), "show '{tag}':{slot}");
 }
 
-fn look_up(rt: &impl Print, image: &[u8], tag: &str) -> io::Result<()> {
-    print_find(rt, image, tag)?;
-    print_show(rt, image, tag)
+fn look_up(rt: &impl Print, image: &[u8], tag: &str) {
+    print_find(rt, image, tag);
+    print_show(rt, image, tag);
 }
 
 // The two lanes with one byte changed.
-fn check_changed(rt: &impl Print, name: &str, at: usize, byte: u8) -> io::Result<()>
+fn check_changed(rt: &impl Print, name: &str, at: usize, byte: u8)
     requires { at < image_length 2 }
 {
     let mut image = two_lanes();
     image[at] = byte;
-    print_check(rt, name, &image)
+    print_check(rt, name, &image);
 }
 
-fn check_headers(rt: &impl Print) -> io::Result<()> {
-    print_check(rt, "short image", &[1, 2, 1])?;
-    check_changed(rt, "version 2", 0, 2)?;
-    check_changed(rt, "no slots", 1, 0)?;
-    check_changed(rt, "three slots in 36 bytes", 1, 3)
+fn check_headers(rt: &impl Print) {
+    print_check(rt, "short image", &[1, 2, 1]);
+    check_changed(rt, "version 2", 0, 2);
+    check_changed(rt, "no slots", 1, 0);
+    check_changed(rt, "three slots in 36 bytes", 1, 3);
 }
 
-fn check_chains(rt: &impl Print) -> io::Result<()> {
-    check_changed(rt, "head above N", 2, 9)?;
-    check_changed(rt, "next above N", 21, 9)?;
-    check_changed(rt, "next already met", 21, 1)
+fn check_chains(rt: &impl Print) {
+    check_changed(rt, "head above N", 2, 9);
+    check_changed(rt, "next above N", 21, 9);
+    check_changed(rt, "next already met", 21, 1);
 }
 
-fn check_records(rt: &impl Print) -> io::Result<()> {
-    check_changed(rt, "kind 0", 4, 0)?;
-    check_changed(rt, "small letter in a tag", 28, b'l')?;
-    check_changed(rt, "underscore first in a tag", 28, b'_')?;
-    check_changed(rt, "tag of an earlier block", 32, b'0')?;
-    check_changed(rt, "wire to no slot", 6, 9)?;
-    check_changed(rt, "abort code without abort", 25, 1)?;
-    check_changed(rt, "spare slot not zero", 2, 2)
+fn check_records(rt: &impl Print) {
+    check_changed(rt, "kind 0", 4, 0);
+    check_changed(rt, "small letter in a tag", 28, b'l');
+    check_changed(rt, "underscore first in a tag", 28, b'_');
+    check_changed(rt, "tag of an earlier block", 32, b'0');
+    check_changed(rt, "wire to no slot", 6, 9);
+    check_changed(rt, "abort code without abort", 25, 1);
+    check_changed(rt, "spare slot not zero", 2, 2);
 }
 
 // IN_1, IN1 and IN_2, each found in its own slot; a tag may end in an underscore and not begin with one.
-fn look_up_underscores(rt: &impl Print) -> io::Result<()> {
+fn look_up_underscores(rt: &impl Print) {
     let image = three_lanes();
-    print_check(rt, "three lanes", &image)?;
-    look_up(rt, &image, "IN_1    ")?;
-    look_up(rt, &image, "IN1     ")?;
-    look_up(rt, &image, "IN_2    ")?;
-    look_up(rt, &image, "IN_     ")?;
-    look_up(rt, &image, "_IN1    ")
+    print_check(rt, "three lanes", &image);
+    look_up(rt, &image, "IN_1    ");
+    look_up(rt, &image, "IN1     ");
+    look_up(rt, &image, "IN_2    ");
+    look_up(rt, &image, "IN_     ");
+    look_up(rt, &image, "_IN1    ");
 }
 
-fn print_tidy(rt: &impl Print, name: &str, image: &[u8], out: &mut [u8]) -> io::Result<()> {
-    print_blocks(rt, "tidy", name, tidy::tidy::tidy(image, out))
+fn print_tidy(rt: &impl Print, name: &str, image: &[u8], out: &mut [u8]) {
+    print_blocks(rt, "tidy ", name, tidy::tidy::tidy(image, out));
 }
 
 // The three lanes, IN_2 wired to the done flag of IN_1. Tidied they stand in slots 1, 2 and 3: found at the same positions, shown with another next
 // slot and another slot in the wire.
-fn tidy_three(rt: &impl Print) -> io::Result<()> {
+fn tidy_three(rt: &impl Print) {
     let mut image = three_lanes();
     image[HEADER_LENGTH + SLOT_LENGTH + START_WIRE_OFFSET] = 3;
     image[HEADER_LENGTH + SLOT_LENGTH + START_WIRE_OFFSET + 1] = 1;
-    print_show(rt, &image, "IN_2    ")?;
+    print_show(rt, &image, "IN_2    ");
     let mut short = [0; TWO_SLOTS];
-    print_tidy(rt, "three lanes into 36 bytes", &image, &mut short)?;
+    print_tidy(rt, "three lanes into 36 bytes", &image, &mut short);
     let mut tidied = [0; THREE_SLOTS];
-    print_tidy(rt, "three lanes", &image, &mut tidied)?;
-    look_up(rt, &tidied, "IN_1    ")?;
-    look_up(rt, &tidied, "IN1     ")?;
-    look_up(rt, &tidied, "IN_2    ")
+    print_tidy(rt, "three lanes", &image, &mut tidied);
+    look_up(rt, &tidied, "IN_1    ");
+    look_up(rt, &tidied, "IN1     ");
+    look_up(rt, &tidied, "IN_2    ");
 }
 
 // A table without blocks becomes one zero slot.
-fn tidy_none(rt: &impl Print) -> io::Result<()> {
+fn tidy_none(rt: &impl Print) {
     let mut image = [0; THREE_SLOTS];
     image[VERSION_OFFSET] = 1;
     image[SLOT_COUNT_OFFSET] = 3;
     let mut tidied = [255; ONE_SLOT];
-    print_tidy(rt, "three spare slots", &image, &mut tidied)?;
-    println!(rt; "image:{}", Hex(&tidied))
+    print_tidy(rt, "three spare slots", &image, &mut tidied);
+    let _ = writeln!(Pieces(rt), "image:{}", Hex(&tidied));
 }
 
-fn run(rt: &impl Print) -> io::Result<()> {
+fn run(rt: &impl Print) {
     let image = two_lanes();
-    print_check(rt, "two lanes", &image)?;
-    look_up(rt, &image, "LANE0   ")?;
-    look_up(rt, &image, "LANEO   ")?;
-    check_headers(rt)?;
-    check_chains(rt)?;
-    check_records(rt)?;
-    look_up(rt, &image, "lane0   ")?;
-    look_up(rt, &image, "LANE0")?;
-    look_up(rt, &image, "LANE1   ")?;
-    look_up_underscores(rt)?;
-    tidy_three(rt)?;
-    tidy_none(rt)
+    print_check(rt, "two lanes", &image);
+    look_up(rt, &image, "LANE0   ");
+    look_up(rt, &image, "LANEO   ");
+    check_headers(rt);
+    check_chains(rt);
+    check_records(rt);
+    look_up(rt, &image, "lane0   ");
+    look_up(rt, &image, "LANE0");
+    look_up(rt, &image, "LANE1   ");
+    look_up_underscores(rt);
+    tidy_three(rt);
+    tidy_none(rt);
 }
 
 fn main(rt: HostRuntime) {
-    // A failed write ends the printing, and the exit status stays 0.
-    let _ = run(&rt);
+    run(&rt);
 }
