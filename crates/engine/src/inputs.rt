@@ -1,6 +1,7 @@
 // Wires and frame to the inputs of a call.
-ghost use Rattle.std.specs.Prelude.{◌≡◌};
-ghost use Rattle.engine.specs.Inputs.{flags_in, flag_of, input_of};
+ghost use Rattle.std.specs.Prelude.{◌≡◌, ◌*◌, ◌≤◌, length};
+ghost use Rattle.layout.specs.Buffer.{record_length};
+ghost use Rattle.engine.specs.Inputs.{flags_in, flag_of, input_of, input_of_numbers};
 ghost use Rattle.engine.specs.Callable.{Reaches};
 
 use block::record::Flags;
@@ -35,4 +36,13 @@ pub fn input_of(wire: Option<Wire>, state: &[u8], bit: bool) -> bool
         return !flag;
     }
     flag
+}
+
+/// One input of a wire by its numbers: the frame's bit at position 0, else a flag of that number, 0 busy, 1 done, 2 error, any other aborted.
+pub fn input_of_numbers(position: u8, flag: u8, inverted: bool, state: &[u8], bit: bool) -> bool
+    requires { record_length * position ≤ length state.now }
+    ensures { result ≡ input_of_numbers position flag inverted (flags_in state.now) bit }
+{
+    let wire = Wire::of_numbers(position, flag, inverted);
+    input_of(wire, state, bit)
 }

@@ -53,8 +53,8 @@ fn call_at(table: &Table, i: usize, frame: &[u8], state: &[u8]) -> CallResult
 {
     let kind = table.kind(i);
     let inputs = inputs_at(table, i, frame, state);
-    let r = layout::record::decode_record(part_at(state, i));
-    let e = layout::entry::decode_entry(part_at(frame, i));
+    let r = layout::record::decode_record(part_at::<RECORD_BYTES>(state, i));
+    let e = layout::entry::decode_entry(part_at::<ENTRY_BYTES>(frame, i));
     block::call::call(kind, inputs, e, r)
 }
 

@@ -23,7 +23,7 @@ fn check_sound(table: &Table, state: &[u8]) -> Checked<()>
 {
     for i in 0..table.len() {
         let kind = table.kind(i);
-        if !layout::record::sound_bytes(kind, part_at(state, i)) {
+        if !layout::record::sound_bytes(kind, part_at::<RECORD_BYTES>(state, i)) {
             return Err(Refusal::at_position(Check::Unsound, i as u8 + 1));
         }
     }
@@ -47,7 +47,7 @@ fn check_entries(table: &Table, frame: &[u8]) -> Checked<()>
     ensures { result ≡ frame_form (blocks_of table.now) frame.now }
 {
     for i in 0..table.len() {
-        if !layout::entry::entry_bytes(part_at(frame, i)) {
+        if !layout::entry::entry_bytes(part_at::<ENTRY_BYTES>(frame, i)) {
             return Err(Refusal::at_position(Check::EntryForm, i as u8 + 1));
         }
     }

@@ -1,5 +1,5 @@
 // How many events each position has of each kind, in one pass over a journal.
-ghost use Rattle.std.specs.Prelude.{ℕ, ◌≡◌, ◌/◌, ◌<◌, ◌≤◌, length};
+ghost use Rattle.std.specs.Prelude.{ℕ, ◌≡◌, ◌*◌, ◌/◌, ◌<◌, ◌≤◌, length};
 ghost use Rattle.image.specs.Image.{most_slots};
 ghost use Rattle.block.specs.Event.{Withdrawn};
 ghost use Rattle.layout.specs.Buffer.{event_length};
@@ -70,5 +70,14 @@ impl Tally {
             tally.add(posted.position, posted.event.kind);
         }
         tally
+    }
+
+    /// The counts of the first so many events of a journal.
+    pub fn of_first(journal: &[u8], events: usize) -> Tally
+        requires events_in_bounds { event_length * events ≤ length journal.now }
+        requires events_bound { events < 4294967296 }
+        ensures { Tallied (decode_events events journal.now) (counts_of result) }
+    {
+        Tally::of(&journal[..EVENT_BYTES * events])
     }
 }

@@ -9,6 +9,7 @@ use native.Mathlib.Nat.{add-suc, add-zero}
 use lib.Dec.{eqb}
 use lib.ListN.{length, take, drop, length-append, length-drop, take-append-drop}
 use lib.Seq.{drop-drop, take_at, drop_at, length-take-le}
+use Rattle.std.proofs.lemmas.List.{take-append-le, drop-append-le}
 use borrow.Author.Tests.{eq-eqb, ne_eqb}
 use Rattle.membership.proofs.Logic.{by_test}
 use Rattle.words.specs.Word.{Bytes, bytes}
@@ -88,6 +89,20 @@ decode_split n (suc m) s =
     let e : n + suc m ≡ suc (n + m) = add-suc n m in
     let d : event_length * (n + m) ≡ event_length * n + event_length * m = omega arith in
     rw (e, decode_split n m s, d, ← drop-drop (event_length * m) (event_length * n) s, append_assoc)
+
+-- the first events stand in front, and are those of the front alone
+pub decode_front : (n : ℕ) (p x : List ℕ) → event_length * n ≤ length p → decode_events n (p ++ x) ≡ decode_events n p
+unfolding decode_events
+decode_front zero p x h = refl
+decode_front (suc n) p x h =
+    let a : event_length * n ≤ length p = omega arith in
+    let b : event_length ≤ length (drop (event_length * n) p) = simp length-drop (omega arith) in
+    rw (drop-append-le, take-append-le, decode_front n p x a)
+
+pub decode_taken : (n : ℕ) (s : List ℕ) → event_length * n ≤ length s → decode_events n (take (event_length * n) s) ≡ decode_events n s
+decode_taken n s h =
+    let m : ℕ = event_length * n in
+    sym (decode_front n (take m s) (drop m s) (omega (arith, length-take-le m s h))) ∙ ap (decode_events n) (take-append-drop m s)
 
 -- the first event, and m more
 one_event : (s : List ℕ) → decode_events 1 s ≡ decode_event (take event_length s) ∷ []

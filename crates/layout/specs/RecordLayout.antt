@@ -64,7 +64,7 @@ decode_record s =
       timer = record { last = number_at 4 s record_offset.last; elapsed = number_at 8 s record_offset.elapsed };
     }
 
--- the timer within it: "20-23 last clock reading; 24-31 elapsed", for the contract of `put_timer`
+-- the timer within it: "20-23 last clock reading; 24-31 elapsed", for the contract of `write_timer`
 abbrev pub encode_timer : Timer → List ℕ
 encode_timer t = bytes 4 t.last ++ bytes 8 t.elapsed
 

@@ -74,8 +74,9 @@ pub fn decode_inputs(b: u8) -> Inputs
     }
 }
 
-/// The entry in its bytes, each piece as one number.
-pub fn decode_entry(s: &[u8; ENTRY_BYTES]) -> PackedEntry
+/// The entry in its bytes, which are the first of those given; each piece as one number.
+pub fn decode_entry(s: &[u8]) -> PackedEntry
+    requires { entry_length ≤ length s.now }
     ensures { entry_of result ≡ decode_entry s.now }
 {
     let pieces = [
@@ -100,7 +101,8 @@ pub fn decode_entry(s: &[u8; ENTRY_BYTES]) -> PackedEntry
 
 #[tactic(auto, using(crate::proofs::EntryCheckLaws::code_zero, crate::proofs::EntryCheckLaws::code_error), unfolding(crate::specs::EntryLayout::decode_entry))]
 // The abort code and the six unnamed bytes after it. Without an error reply all are zero, and one number.
-fn abort_code_fits(s: &[u8; ENTRY_BYTES]) -> bool
+fn abort_code_fits(s: &[u8]) -> bool
+    requires { entry_length ≤ length s.now }
     ensures { result
         ≡ code_fits (decode_entry s.now).abort_reply (decode_entry s.now).abort_code
         && zero_at 2 s.now entry_offset.unnamed_pair && zero_at 4 s.now entry_offset.unnamed_quad }
@@ -115,7 +117,8 @@ fn abort_code_fits(s: &[u8; ENTRY_BYTES]) -> bool
 
 // What stands before the pieces: the fields of one byte, each with its own return, then the abort code and the unnamed bytes.
 #[tactic(auto, unfolding(crate::specs::EntryLayout::decode_entry))]
-fn head_fits(s: &[u8; ENTRY_BYTES]) -> bool
+fn head_fits(s: &[u8]) -> bool
+    requires { entry_length ≤ length s.now }
     ensures { result ≡ head_form s.now && head_fits (decode_entry s.now) }
 {
     if s[INPUTS_OFFSET] >= 4 {
@@ -158,7 +161,8 @@ fn piece_fits(s: &[u8], at: usize, i: u8, count: u8) -> bool
 
 // All four pieces are zero.
 // By words: what is absent is one number that is zero (docs/PERFORMANCE.md, What was done).
-fn pieces_zero(s: &[u8; ENTRY_BYTES]) -> bool
+fn pieces_zero(s: &[u8]) -> bool
+    requires { entry_length ≤ length s.now }
     ensures { result ≡ zero_at (piece_length * most_pieces) s.now head_length }
 {
     (read_at::<u64>(s, FIRST_PIECE) == 0)
@@ -169,7 +173,8 @@ fn pieces_zero(s: &[u8; ENTRY_BYTES]) -> bool
 
 #[tactic(auto, using(crate::proofs::EntryCheckLaws::entry_tests, crate::proofs::EntryCheckLaws::no_pieces))]
 /// Check 31 of one entry: its head, then its pieces, at once where it has none.
-pub fn entry_bytes(s: &[u8; ENTRY_BYTES]) -> bool
+pub fn entry_bytes(s: &[u8]) -> bool
+    requires { entry_length ≤ length s.now }
     ensures { result ≡ entry_bytes s.now }
 {
     if !head_fits(s) {

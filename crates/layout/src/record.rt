@@ -68,9 +68,10 @@ pub fn decode_flags(b: u8) -> Flags
     }
 }
 
-/// The record in its bytes.
+/// The record in its bytes, which are the first of those given.
 #[tactic(auto, unfolding(crate::specs::RecordLayout::decode_record))]
-pub fn decode_record(s: &[u8; RECORD_BYTES]) -> Record
+pub fn decode_record(s: &[u8]) -> Record
+    requires { record_length ≤ length s.now }
     ensures { result ≡ decode_record s.now }
 {
     Record {
@@ -120,7 +121,8 @@ pub fn write_timer(out: &mut [u8], timer: Timer)
 #[tactic(auto, using(crate::proofs::RecordCheckLaws::form_tests))]
 // The unnamed bytes and bits, and the request.
 // By words, as in `record_zero`: unnamed bytes that stand together are one number.
-fn record_form(s: &[u8; RECORD_BYTES]) -> bool
+fn record_form(s: &[u8]) -> bool
+    requires { record_length ≤ length s.now }
     ensures { result ≡ record_form s.now }
 {
     (s[FLAGS_OFFSET] < 16)
@@ -132,7 +134,8 @@ fn record_form(s: &[u8; RECORD_BYTES]) -> bool
 #[tactic(auto, using(crate::proofs::RecordCheckLaws::words_zero))]
 // All the bytes are zero, read eight at a time: a field begins at each eighth byte.
 // By words: what is absent is one number that is zero (docs/PERFORMANCE.md, What was done).
-fn record_zero(s: &[u8; RECORD_BYTES]) -> bool
+fn record_zero(s: &[u8]) -> bool
+    requires { record_length ≤ length s.now }
     ensures { result ≡ zero_at record_length s.now 0 }
 {
     (read_at::<u64>(s, STEP_OFFSET) == 0)
@@ -151,7 +154,8 @@ const EXECUTING_HEAD: u64 = Record::EXECUTING as u64 + 256 * BUSY_ALONE as u64;
 
 #[tactic(auto, using(crate::proofs::RecordCheckLaws::dormant_tests, crate::proofs::RecordCheckLaws::executing_tests), unfolding(crate::specs::RecordLayout::sound_bytes))]
 /// Check 21 of one record: Dormant is all zero; with the head of Executing, code and unnamed pair are zero and the times sound; else the form, then the fields.
-pub fn sound_bytes(kind: Kind, s: &[u8; RECORD_BYTES]) -> bool
+pub fn sound_bytes(kind: Kind, s: &[u8]) -> bool
+    requires { record_length ≤ length s.now }
     ensures { result ≡ sound_bytes kind s.now }
 {
     if s[STEP_OFFSET] == Record::DORMANT {

@@ -1,21 +1,13 @@
 -- A journal to which the events of a call are put after those before, with no bound on how many there are: reading it back gives the events before,
 -- then those of the call. For the journal of a scan.
-use Rattle.std.proofs.Common.{◌≡◌, ℕ, zero, suc, ◌+◌, ◌*◌, ◌≤◌, List, ◌++◌, length, take, drop, refl, ◌∙◌, arith, length-append, length-drop, take-append-drop, drop_at, length-take-le}
-use Rattle.std.proofs.lemmas.List.{take-append-le, drop-append-le}
+use Rattle.std.proofs.Common.{◌≡◌, ℕ, ◌+◌, ◌*◌, ◌≤◌, List, ◌++◌, length, take, drop, ◌∙◌, arith, length-append, take-append-drop, drop_at, length-take-le}
 use Rattle.layout.specs.Buffer.{event_length, put}
 use Rattle.layout.specs.EventLayout.{encode_events, decode_events}
 use Rattle.layout.proofs.Fits.{All, EventFits}
 use Rattle.layout.proofs.EventLaws.{posted, posted_length, posted_events, posted_fits, events_length, decode_split, decode_posted}
 use Rattle.block.specs.declared.event.Event.{Event}
-
 -- the first events stand in front
-pub decode_front : (n : ℕ) (p x : List ℕ) → event_length * n ≤ length p → decode_events n (p ++ x) ≡ decode_events n p
-unfolding decode_events
-decode_front zero p x h = refl
-decode_front (suc n) p x h =
-    let a : event_length * n ≤ length p = omega arith in
-    let b : event_length ≤ length (drop (event_length * n) p) = simp length-drop (omega arith) in
-    rw (drop-append-le, take-append-le, decode_front n p x a)
+pub use Rattle.layout.proofs.EventLaws.{decode_front}
 
 -- the events of a call, read back
 decode_call : (position : ℕ) (vs : List Event) (x : List ℕ) → All EventFits vs → decode_events (length vs) (encode_events position vs ++ x) ≡ posted position vs

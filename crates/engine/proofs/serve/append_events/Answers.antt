@@ -1,5 +1,5 @@
 -- `serve::append_events` meets its contract, by which events there are.
-use Rattle.std.proofs.Common.{sym, append-nil, ◌+◌, ◌*◌}
+use Rattle.std.proofs.Common.{◌≡◌, None, Some, sym, append-nil, ◌+◌, ◌*◌}
 use Rattle.layout.specs.Buffer.{event_length}
 use Rattle.layout.specs.EventLayout.{encode_event, encode_events}
 use Rattle.layout.proofs.BufferLaws.{put_nothing, put_front}
@@ -16,7 +16,8 @@ unfolding encode_events
 returns-in_default-last-clause-journal c =
     let a = c.args in
     let first = c.in-Some.first in
-    rw (c.in-Some.is, c.in_default-last.is, append-nil)
+    let none : a.a.second ≡ None = c.in_default-last.is in
+    rw (c.in-Some.is, none, append-nil)
     (put_front (event_length * a.events) event_length a.journal.now (encode_event a.position first) _ (event_length_lem a.position first) c.write_event.ensures)
 
 pub returns-clause-journal : goal.returns-clause-journal
@@ -26,7 +27,8 @@ returns-clause-journal c =
     let at = event_length * a.events in
     let first = c.in-Some.first in
     let second = c.in-Some-last.second in
-    rw (c.in-Some.is, c.in-Some-last.is, append-nil)
+    let both : a.a.second ≡ Some second = c.in-Some-last.is in
+    rw (c.in-Some.is, both, append-nil)
     (append_two a.events a.position first second a.journal.now _ _ c.requires
     (put_front at event_length a.journal.now (encode_event a.position first) _ (event_length_lem a.position first) c.write_event.ensures)
     (put_front (at + event_length) event_length _ (encode_event a.position second) _ (event_length_lem a.position second) c.write_event-2.ensures))

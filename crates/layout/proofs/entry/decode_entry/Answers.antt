@@ -1,5 +1,5 @@
 -- `entry::decode_entry` meets its contract, field by field; each piece is the one in its number.
-use Rattle.std.proofs.Common.{ℕ, ◌≡◌, ◌+◌, ◌≤◌, ◌∙◌, [], ◌∷◌, ap, arith}
+use Rattle.std.proofs.Common.{ℕ, ◌≡◌, ◌+◌, ◌≤◌, ◌∙◌, [], ◌∷◌, ap, arith, length}
 use Rattle.words.specs.Word.{number_at}
 use Rattle.block.specs.PackedEntry.{piece_of}
 use Rattle.layout.specs.Buffer.{byte_at}
@@ -11,8 +11,8 @@ pub returns : goal.returns
 unfolding decode_entry
 returns c =
     let s = c.args.s.now in
-    let piece : (word i : ℕ) → word ≡ number_at piece_length s (piece_offset i) → piece_offset i + piece_length ≤ 64 → piece_of word ≡ decode_piece s (piece_offset i) =
-    λ word i e l. ap piece_of e ∙ packed_piece s (piece_offset i) c.fits-s (omega (arith, c.told-s)) in
+    let piece : (word i : ℕ) → word ≡ number_at piece_length s (piece_offset i) → piece_offset i + piece_length ≤ length s → piece_of word ≡ decode_piece s (piece_offset i) =
+    λ word i e l. ap piece_of e ∙ packed_piece s (piece_offset i) (λ j. (c.type_inv.s j).fits) l in
     λ i. record {
       inputs = c.decode_inputs.ensures i;
       count = byte_at s entry_offset.count;
@@ -24,9 +24,9 @@ returns c =
       timeout = c.read_at-8.ensures i;
       clock = c.read_at-9.ensures i;
       pieces =
-          piece _ 0 c.read_at.ensures (omega arith) i
-          ∷ piece _ 1 c.read_at-2.ensures (omega arith) i
-          ∷ piece _ 2 c.read_at-3.ensures (omega arith) i
-          ∷ piece _ 3 c.read_at-4.ensures (omega arith) i
+          piece _ 0 c.read_at.ensures (omega (arith, c.requires)) i
+          ∷ piece _ 1 c.read_at-2.ensures (omega (arith, c.requires)) i
+          ∷ piece _ 2 c.read_at-3.ensures (omega (arith, c.requires)) i
+          ∷ piece _ 3 c.read_at-4.ensures (omega (arith, c.requires)) i
           ∷ [];
     }
