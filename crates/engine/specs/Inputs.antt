@@ -3,7 +3,7 @@ use Rattle.std.specs.Prelude.{ℕ, ◌-◌, Bool, not, cond, List, Option, None,
 use Rattle.table.specs.declared.blocks.Flag.{Flag}
 use Rattle.table.specs.declared.blocks.Flag.TheVariants.{Busy, Done, Error, Aborted}
 use Rattle.table.specs.declared.blocks.Wire.{Wire}
-use Rattle.table.specs.Blocks.{BlockConfig}
+use Rattle.table.specs.Blocks.{BlockConfig, flag_of_number}
 use Rattle.layout.specs.Buffer.{record_length, part}
 use Rattle.layout.specs.RecordLayout.{decode_record}
 use Rattle.block.specs.declared.record.Flags.{Flags}
@@ -25,15 +25,11 @@ abbrev pub input_of : Option Wire → (ℕ → Flags) → Bool → Bool
 input_of None flags bit = bit
 input_of (Some w) flags bit = cond w.inverted (not (flag_of w.flag (flags (w.position - 1)))) (flag_of w.flag (flags (w.position - 1)))
 
--- the flag of a number: "flag (0 busy, 1 done, 2 error, 3 aborted)", any higher number aborted too
-abbrev pub flag_numbered : ℕ → Flags → Bool
-flag_numbered number f = cond (eqb number 0) f.busy (cond (eqb number 1) f.done (cond (eqb number 2) f.error f.aborted))
-
 -- the input by a wire's numbers: "Wire slot 0 takes the input bit from the frame", here position 0; otherwise the flag of that number, perhaps inverted
 abbrev pub input_of_numbers : ℕ → ℕ → Bool → (ℕ → Flags) → Bool → Bool
 input_of_numbers position flag inverted flags bit =
     cond (eqb position 0) bit
-    (cond inverted (not (flag_numbered flag (flags (position - 1)))) (flag_numbered flag (flags (position - 1))))
+    (cond inverted (not (flag_of (flag_of_number flag) (flags (position - 1)))) (flag_of (flag_of_number flag) (flags (position - 1))))
 
 -- both inputs from two wires; the frame's own bits where no wire is
 abbrev pub wired : Option Wire → Option Wire → (ℕ → Flags) → Inputs → Inputs

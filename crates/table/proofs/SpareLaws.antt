@@ -1,5 +1,5 @@
--- Laws of the spare slots: sixteen zeros by two numbers, for the proof of spare::slot_zero; that there are none where the chain has all slots, and what the
--- loop of spare::check_spares keeps, for its proof.
+-- Laws of the spare slots: sixteen zeros by two numbers, for the proof of spare::slot_zero; and that there are none where the chain has all slots, for that of
+-- spare::check_spares.
 use Prim.Native.Nat.{ℕ, suc, ◌+◌}
 use mathlib.Core.Path.{◌≡◌, sym, ◌∙◌}
 use mathlib.Core.List.{List}
