@@ -115,10 +115,10 @@ module _ (image : List ℕ) (n : ℕ) (ok : check_of image ≡ Ok n) where
   accepted_records = group_passes (records_check image) (spares_check image) tt records_on
 
   -- a slot of 1 to N is on the chain or all zero
-  pub accepted-spare : (slot : ℕ) → 0 < slot → slot ≤ slot_count image → spare_ok image (chain_of image) slot ≡ true
+  pub accepted_spare : (slot : ℕ) → 0 < slot → slot ≤ slot_count image → spare_ok image (chain_of image) slot ≡ true
   unfolding spares_check
-  accepted-spare zero p q = absurd (omega arith)
-  accepted-spare (suc i) p q =
+  accepted_spare zero p q = absurd (omega arith)
+  accepted_spare (suc i) p q =
       require_this (spare_ok image (chain_of image) (suc i)) SpareSlot (Slot (suc i)) (Ok tt) tt
       (each_passes (spare_at image) (slot_count image) (rest_passes (records_check image) (spares_check image) tt records_on) i (omega arith))
 

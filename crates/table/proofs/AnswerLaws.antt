@@ -80,9 +80,9 @@ spares_bounded image =
     row_has (Bounded 11 (slot_count image)) (spare_at image) (slot_count image) tt
     (λ i l. bounded_require 11 (slot_count image) (spare_ok image (chain_of image) (suc i)) SpareSlot (Slot (suc i)) (Ok tt) (omega arith) (omega arith) (omega arith) tt)
 
-check-bounded : (image : List ℕ) → Bounded 11 (slot_count image) (check_of image)
+check_bounded : (image : List ℕ) → Bounded 11 (slot_count image) (check_of image)
 unfolding check_of verdict_of walked
-check-bounded image =
+check_bounded image =
     let N = slot_count image in
     bounded_then 11 N (result_and (header_check image) (result_and (chain_verdict (walked image)) (result_and (records_check image) (spares_check image)))) (Ok (length (chain_of image)))
     (bounded_then 11 N (header_check image) (result_and (chain_verdict (walked image)) (result_and (records_check image) (spares_check image))) (header_bounded image N)
@@ -92,4 +92,4 @@ check-bounded image =
 -- a refusal's number and place
 pub refusal_bounds : (image : List ℕ) (r : Refusal) → check_of image ≡ Err r
     → (1 ≤ check_number r.check) × (check_number r.check ≤ 11) × (place_number r.place ≤ slot_count image)
-refusal_bounds image r e = subst (Bounded 11 (slot_count image)) e (check-bounded image)
+refusal_bounds image r e = subst (Bounded 11 (slot_count image)) e (check_bounded image)

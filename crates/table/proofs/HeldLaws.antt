@@ -25,31 +25,31 @@ pub record AtIndex (image : List ℕ) (chain : Chain) (table : List ℕ) (i : �
   pub block : block_in image (chain_of image) (get_or chain.slots i 0) ≡ block_at (blocks_of table) i
 
 module _ (image : List ℕ) (chain : Chain) (ok : IsAccepted image chain) where
-  pub held-length : length (blocks_of image) ≡ chain.count
-  held-length = accepted_blocks image chain.count ok.answer
+  pub held_length : length (blocks_of image) ≡ chain.count
+  held_length = accepted_blocks image chain.count ok.answer
 
   pub held : (i : ℕ) → i < chain.count → AtIndex image chain image i
   unfolding block_in
   held i l =
       let hd = accepted_header_ok image chain.count ok.answer in
       let few : slot_count image ≤ most_slots = hd.few in
-      let its-slot = slot_is image chain hd ok.chain i l in
+      let its_slot = slot_is image chain hd ok.chain i l in
       let block = accepted_block image chain.count ok.answer i l in
       record {
         counted = l;
         few = omega (arith, ok.chain.few);
-        slot = its-slot;
+        slot = its_slot;
         has = slot_has image chain hd ok.chain i l;
-        kind = rw (its-slot, ← ap (λ (b : Block). b.kind) block) (accepted_kind image chain.count ok.answer i l);
-        start = rw its-slot (omega (arith, accepted_source image chain.count ok.answer i l start_wire_offset (inl refl)));
-        abort = rw its-slot (omega (arith, accepted_source image chain.count ok.answer i l abort_wire_offset (inr refl)));
-        start_ok = rw its-slot (accepted_record image chain.count ok.answer i l).start;
-        abort_ok = rw its-slot (abort_wire_ok image (chain_of image) (get_or (chain_of image) i 0) (accepted_record image chain.count ok.answer i l).abort);
-        block = ap (λ (slot : ℕ). block_in image (chain_of image) slot) its-slot ∙ sym block;
+        kind = rw (its_slot, ← ap (λ (b : Block). b.kind) block) (accepted_kind image chain.count ok.answer i l);
+        start = rw its_slot (omega (arith, accepted_source image chain.count ok.answer i l start_wire_offset (inl refl)));
+        abort = rw its_slot (omega (arith, accepted_source image chain.count ok.answer i l abort_wire_offset (inr refl)));
+        start_ok = rw its_slot (accepted_record image chain.count ok.answer i l).start;
+        abort_ok = rw its_slot (abort_wire_ok image (chain_of image) (get_or (chain_of image) i 0) (accepted_record image chain.count ok.answer i l).abort);
+        block = ap (λ (slot : ℕ). block_in image (chain_of image) slot) its_slot ∙ sym block;
       }
 
 pub table_length : (image : List ℕ) (chain : Chain) (table : List ℕ) → IsAccepted image chain → image ≡ table → length (blocks_of table) ≡ chain.count
-table_length image chain table ok e = rw (← e) (held-length image chain ok)
+table_length image chain table ok e = rw (← e) (held_length image chain ok)
 
 pub at_index : (image : List ℕ) (chain : Chain) (table : List ℕ) (i : ℕ) → IsAccepted image chain → image ≡ table → i < length (blocks_of table)
     → AtIndex image chain table i

@@ -75,8 +75,8 @@ module _ (image tag : List ℕ) where
   find_checks n e = simp e
 
 -- a position that is answered is one of a block
-pub found-within : (image tag : List ℕ) (p : ℕ) → tag_checks image tag ≡ Ok p → (0 < p) × (p ≤ length (blocks_of image))
-found-within image tag p e =
+pub found_within : (image tag : List ℕ) (p : ℕ) → tag_checks image tag ≡ Ok p → (0 < p) × (p ≤ length (blocks_of image))
+found_within image tag p e =
     by_test (tag_form tag)
     (λ f. let g : found_at (tag_position image tag 1 (chain_of image)) ≡ Ok p = simp f at e in go (tag_position image tag 1 (chain_of image)) refl g)
     (λ f. let z = simp f at e in cc)

@@ -30,7 +30,7 @@ use Rattle.table.proofs.Walk.{walk_ends, walk_onward, walk_by_rules}
 use Rattle.table.proofs.AcceptedLaws.{
   accepted_header,
   accepted_chain,
-  accepted-spare,
+  accepted_spare,
   accepted_count,
   accepted_blocks,
   accepted_few,
@@ -77,10 +77,10 @@ tag_not_among image tag (k ∷ slots) h =
     (λ s. simp (s, tag_not_among image tag slots (λ i l e. h (suc i) (omega arith) e)))
 
 -- records in form with different tags pass
-pub record-passes : (image chain : List ℕ) (i : ℕ) → i < length chain → RecordOk image chain (get_or chain i 0)
+pub record_passes : (image chain : List ℕ) (i : ℕ) → i < length chain → RecordOk image chain (get_or chain i 0)
     → Distinct (length chain) (λ i. tag_of image (get_or chain i 0)) → record_at image chain i ≡ Ok tt
 unfolding record_check
-record-passes image chain i l own d =
+record_passes image chain i l own d =
     let m : length (take i chain) ≡ i = length-take-le i chain (omega arith) in
     let new : tag_among image (tag_of image (get_or chain i 0)) (take i chain) ≡ false =
     tag_not_among image (tag_of image (get_or chain i 0)) (take i chain)
@@ -100,7 +100,7 @@ module _ (image chain : List ℕ) (t : Table image chain) where
   table_passes =
       let c : chain_of image ≡ chain = ap slots_of table_walked in
       let r : first_refused (record_at image chain) (length chain) ≡ Ok tt =
-      row_passes (record_at image chain) (length chain) (λ i l. record-passes image chain i l (t.records i l) t.tags) in
+      row_passes (record_at image chain) (length chain) (λ i l. record_passes image chain i l (t.records i l) t.tags) in
       let s : first_refused (spare_at image) (slot_count image) ≡ Ok tt =
       row_passes (spare_at image) (slot_count image) (λ i l. let k : spare_ok image (chain_of image) (suc i) ≡ true = rw c (table_spare (suc i) (omega arith) (omega arith)) in rw k) in
       rw (t.header, table_walked) (rw r s)
@@ -144,7 +144,7 @@ module _ (image : List ℕ) (ok : check_of image ≡ Ok (length (chain_of image)
     distinct = accepted_distinct image _ ok;
     records = accepted_record image _ ok;
     tags = accepted_slot_tags image _ ok;
-    spares = λ s p q m. simp m at (accepted-spare image _ ok s p q);
+    spares = λ s p q m. simp m at (accepted_spare image _ ok s p q);
   }
 
 pub accepted_table : AcceptedTable
